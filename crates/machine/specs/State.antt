@@ -1,0 +1,65 @@
+-- The machine's state, the state at the start, and the requests that a message stands for: document 01, "Wiring and queues", "Steps".
+use Prim.Native.Nat.{ℕ, zero, suc}
+use mathlib.Core.List.{List, [], _∷_, _++_}
+use mathlib.Core.Option.{Option, none, some}
+use lib.Dec.{eqb}
+use Rattle.lists.specs.Choice.{choose}
+use Rattle.machine.specs.Setup.{Setup, Message, WaitRecord, Reply, place}
+use Rattle.machine.specs.Arrival.{recordsOf}
+
+module _ (S : Setup) where
+  open Setup S using (Word, k, R, engineOf, addressOf, operationOf)
+
+  -- Queues and buffers are by level and position, oldest first. The requests at level 0, position e, are those that
+  -- engine e has not issued, in trace order: an issue is then a forward from level 0.
+  pub record State : Type 0 where
+    pub requests : ℕ → ℕ → List (Message S)
+    pub waits : ℕ → ℕ → List (WaitRecord S)
+    pub replies : ℕ → ℕ → List (Reply S)
+    pub words : ℕ → Word
+    pub order : List ℕ
+    pub answers : ℕ → Option Word
+    pub accesses : ℕ
+    pub merges : ℕ
+
+  -- the tags below n, ascending
+  unfoldable pub tagsBelow : ℕ → List ℕ
+  tagsBelow zero = []
+  tagsBelow (suc n) = tagsBelow n ++ (n ∷ [])
+
+  -- the request t as it is issued
+  abbrev pub asked : ℕ → Message S
+  asked t = record { tag = t; address = addressOf t; operation = operationOf t }
+
+  -- "engine e's .. requests, in trace order"
+  unfoldable pub askedBy : ℕ → List ℕ → List (Message S)
+  askedBy e [] = []
+  askedBy e (t ∷ ts) = choose (eqb (engineOf t) e) (asked t ∷ askedBy e ts) (askedBy e ts)
+
+  -- before the first event nothing is issued, every queue is empty, and the words are the starting words
+  unfoldable pub unissued : ℕ → ℕ → List (Message S)
+  unissued zero e = askedBy e (tagsBelow R)
+  unissued (suc s) p = []
+
+  unfoldable pub start : (ℕ → Word) → State
+  start words = record {
+    requests = unissued;
+    waits = λ s p. [];
+    replies = λ s p. [];
+    words = words;
+    order = [];
+    answers = λ t. none;
+    accesses = 0;
+    merges = 0;
+  }
+
+  -- "of each second tag recorded for t at level s, oldest record first"
+  abbrev pub seconds : (ℕ → List ℕ) → List (WaitRecord S) → List ℕ
+  seconds upTo [] = []
+  seconds upTo (r ∷ rs) = upTo (r .second) ++ seconds upTo rs
+
+  -- "the requests of t up to level s are those of t up to level s-1, followed by those, up to level s-1, of each second tag
+  -- recorded for t at level s, oldest record first; up to level 0 they are t alone"
+  unfoldable pub standsFor : (ℕ → ℕ → List (WaitRecord S)) → ℕ → ℕ → List ℕ
+  standsFor waits zero t = t ∷ []
+  standsFor waits (suc s) t = standsFor waits s t ++ seconds (standsFor waits s) (recordsOf S t (waits (suc s) (place S t (suc s))))

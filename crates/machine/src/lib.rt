@@ -1,0 +1,1 @@
+// Definitions and theorems alone: specs/ and proofs/.
