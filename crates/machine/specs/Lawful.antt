@@ -15,5 +15,6 @@ module _ (S : Setup) where
     -- one level up depends on position and address alone
     pub position-onward : (e e′ a s : ℕ) → position e a s ≡ position e′ a s → position e a (suc s) ≡ position e′ a (suc s)
     pub place-below : (t s : ℕ) → place S t s < N
-    -- "queue room Q 1 to 4"
+    -- "k 1 to 4; queue room Q 1 to 4"
+    pub levels : 0 < k
     pub room : 0 < Q

@@ -6,3 +6,4 @@ pub mod Run
 pub mod Single
 pub mod Lawful
 pub mod Order
+pub mod Sound
