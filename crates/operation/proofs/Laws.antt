@@ -1,0 +1,104 @@
+-- The laws of the add, of merging, and of codes and operands: document 01, "Operations".
+use mathlib.Core.Path.{_≡_, refl, subst}
+use Prim.Native.Nat.{ℕ, _^_, _<_}
+use native.Mathlib.Omega.{arith}
+use lib.Bits.{and-lt, xor-lt}
+use Rattle.operation.specs.declared.Operation.{Operation}
+use Rattle.operation.specs.declared.Operation.the-variants.{Load, Swap, Add, Mask}
+use Rattle.operation.specs.declared.Merged.{Merged}
+use Rattle.operation.specs.declared.Merged.the-variants.{One, Never}
+use Rattle.operation.specs.Operation.{sum, applied, merged, operationOf, codeOf, firstOperand, secondOperand}
+use Rattle.operation.proofs.Bits.{and-assoc, xor-assoc, and-xor}
+
+-- ---- sum: the only laws that see its text
+pub sum-below : (x y : ℕ) → sum x y < 2 ^ 64
+unfolding sum
+sum-below x y = omega arith
+
+pub sum-zero : (x : ℕ) → x < 2 ^ 64 → sum x 0 ≡ x
+unfolding sum
+sum-zero x h = omega arith
+
+pub sum-assoc : (x y z : ℕ) → sum x (sum y z) ≡ sum (sum x y) z
+unfolding sum
+sum-assoc x y z = omega arith
+
+-- ---- merged, by the document's rules
+-- "load then g is g"
+pub load-then : (g : Operation) → merged Load g ≡ One g
+unfolding merged
+load-then g = refl
+
+-- "f then load is f": a swap of load(v) is that swap
+pub then-load : (f : Operation) → merged f Load ≡ One f
+unfolding merged applied
+then-load Load = refl
+then-load (Swap v) = refl
+then-load (Add a) = refl
+then-load (Mask a b) = refl
+
+-- "anything then swap v is swap v"
+pub then-swap : (f : Operation) (v : ℕ) → merged f (Swap v) ≡ One (Swap v)
+unfolding merged applied
+then-swap Load v = refl
+then-swap (Swap w) v = refl
+then-swap (Add a) v = refl
+then-swap (Mask a b) v = refl
+
+-- "swap v then g is swap of g(v)"
+pub swap-then : (v : ℕ) (g : Operation) → merged (Swap v) g ≡ One (Swap (applied g v))
+unfolding merged
+swap-then v g = refl
+
+-- "add then mask, and mask then add, do not merge, even where an operand makes one of them harmless"
+pub add-mask-never : (a b c : ℕ) → merged (Add a) (Mask b c) ≡ Never
+unfolding merged
+add-mask-never a b c = refl
+
+pub mask-add-never : (a b c : ℕ) → merged (Mask a b) (Add c) ≡ Never
+unfolding merged
+mask-add-never a b c = refl
+
+-- ---- "Wherever two merge, the merged operation applied to any x gives g(f(x))."
+abbrev Applies : Operation → Operation → Merged → Type 0
+Applies f g Never = Unit {0}
+Applies f g (One h) = (x : ℕ) → applied h x ≡ applied g (applied f x)
+
+applies : (f g : Operation) → Applies f g (merged f g)
+unfolding merged applied
+applies Load g = λ x. refl
+applies (Swap v) g = λ x. refl
+applies (Add a) Load = λ x. refl
+applies (Add a) (Swap v) = λ x. refl
+applies (Add a) (Add b) = λ x. sum-assoc x a b
+applies (Add a) (Mask c d) = tt
+applies (Mask a b) Load = λ x. refl
+applies (Mask a b) (Swap v) = λ x. refl
+applies (Mask a b) (Add c) = tt
+applies (Mask a b) (Mask c d) = λ x. simp (and-xor, and-assoc, xor-assoc)
+
+pub merge-applies : (f g h : Operation) → merged f g ≡ One h → (x : ℕ) → applied h x ≡ applied g (applied f x)
+merge-applies f g h e = subst (Applies f g) e (applies f g)
+
+-- ---- codes and operands name the operation
+pub operation-words : (f : Operation) → operationOf (codeOf f) (firstOperand f) (secondOperand f) ≡ f
+unfolding operationOf codeOf firstOperand secondOperand
+operation-words Load = refl
+operation-words (Swap v) = refl
+operation-words (Add a) = refl
+operation-words (Mask a b) = refl
+
+-- ---- words stay words
+-- the operands are words of 64 bits
+abbrev pub Fits : Operation → Type 0
+Fits Load = Unit {0}
+Fits (Swap v) = v < 2 ^ 64
+Fits (Add a) = a < 2 ^ 64
+Fits (Mask a b) = (a < 2 ^ 64) × (b < 2 ^ 64)
+
+pub applied-fits : (f : Operation) → Fits f → (x : ℕ) → x < 2 ^ 64 → applied f x < 2 ^ 64
+unfolding applied
+applied-fits Load w x h = h
+applied-fits (Swap v) w x h = w
+applied-fits (Add a) w x h = sum-below x a
+applied-fits (Mask a b) w x h = xor-lt 64 _ _ (and-lt 64 _ _ h (w .0)) (w .1)

@@ -1,0 +1,15 @@
+-- `operation::plus` meets its contract: the supplied wrapping add is the sum.
+use borrow.Author.Needs.{needs}
+use Rattle.operation.specs.Operation.{sum}
+use Rattle.operation.proofs.plus.Statement.{statement}
+use Rattle.operation.proofs.plus.Tie as tie
+
+wrapping-add-u64-requires : tie.Need-wrapping-add-u64-requires
+wrapping-add-u64-requires c κs = search needs
+
+returns : tie.Need-returns
+unfolding sum
+returns c = search needs
+
+pub plus-spec : {M : Type 1} → statement M
+plus-spec = tie.close (tie.spec wrapping-add-u64-requires returns)
