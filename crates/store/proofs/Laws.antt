@@ -52,8 +52,8 @@ module _ {A : Type 0} (read : List ℕ → ℕ → List A) (size : ℕ)
   site-stored l low h =
       update2-unique (bySite read offset bytes) (bySite read offset (stored offset)) level position (read row 0)
       (site-here read offset (stored offset) level position low
-        ∙ alike (stored offset) row (siteOf level position + offset) 0
-        (λ k b. sets-inside row bytes (siteOf level position + offset) k 0 (omega arith) (omega arith) ∙ ap (λ (m : ℕ). getD row m 0) (omega arith)))
+      ∙ alike (stored offset) row (siteOf level position + offset) 0
+      (λ k b. sets-inside row bytes (siteOf level position + offset) k 0 (omega arith) (omega arith) ∙ ap (λ (m : ℕ). getD row m 0) (omega arith)))
       (λ s p n. ltb-cases (λ b. choose b (read (stored offset) (siteOf s p + offset)) [] ≡ choose b (read bytes (siteOf s p + offset)) []) p 16
       (λ h. alike (stored offset) bytes (siteOf s p + offset) (siteOf s p + offset)
       (λ k b. sets-outside row bytes (siteOf level position + offset) (siteOf s p + offset + k) 0 (λ z. n (omega arith, omega arith))))
@@ -120,8 +120,8 @@ module _ (bytes after : List ℕ) (level position at : ℕ) (size : length bytes
         inRequests = site-kept tagsAt 5 tags-alike 0 (omega arith) bytes (pairsRow items len) level position 10 (omega arith) (inl (omega arith));
         inReplies = site-kept tagsAt 5 tags-alike 5 (omega arith) bytes (pairsRow items len) level position 10 (omega arith) (inl (omega arith));
         inWaits =
-          site-stored pairsAt 17 pairs-alike 10 (omega arith) bytes (pairsRow items len) level position n low (omega arith)
-          ∙ ap (update2 (bySite pairsAt 10 bytes) level position) (pairs-row items len f);
+            site-stored pairsAt 17 pairs-alike 10 (omega arith) bytes (pairsRow items len) level position n low (omega arith)
+            ∙ ap (update2 (bySite pairsAt 10 bytes) level position) (pairs-row items len f);
       }
 
 -- what is said of the tables of an array is said of those that it holds

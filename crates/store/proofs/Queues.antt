@@ -83,8 +83,8 @@ pairs-count bytes at = rw length-take (omega arith)
 
 pub pairs-loaded : (bytes : List ℕ) (at : ℕ) →
     take (min 8 (getD bytes (at + 16) 0))
-      (pairAt bytes at ∷ pairAt bytes (at + 1) ∷ pairAt bytes (at + 2) ∷ pairAt bytes (at + 3) ∷
-        pairAt bytes (at + 4) ∷ pairAt bytes (at + 5) ∷ pairAt bytes (at + 6) ∷ pairAt bytes (at + 7) ∷ []) ≡ pairsAt bytes at
+    (pairAt bytes at ∷ pairAt bytes (at + 1) ∷ pairAt bytes (at + 2) ∷ pairAt bytes (at + 3) ∷
+    pairAt bytes (at + 4) ∷ pairAt bytes (at + 5) ∷ pairAt bytes (at + 6) ∷ pairAt bytes (at + 7) ∷ []) ≡ pairsAt bytes at
 unfolding pairsAt
 pairs-loaded bytes at = rw add-zero
 

@@ -186,7 +186,14 @@ fn store_tags(net: &mut [u8; 2560], at: usize, queue: Tags)
     requires { ⌜ Fits 4 (queue .items) (queue .len) ⌝ }
     ensures { λ _. ⌜ now (net .exit) ≡ sets (now (net .entry)) at (tagsRow (queue .items) (queue .len)) ⌝ }
 {
-    store_four(net, at, queue.items[0], queue.items[1], queue.items[2], queue.items[3]);
+    store_four(
+        net,
+        at,
+        queue.items[0],
+        queue.items[1],
+        queue.items[2],
+        queue.items[3],
+    );
     net[at + 4] = queue.len as u8;
 }
 
@@ -199,8 +206,22 @@ fn store_pairs(net: &mut [u8; 2560], at: usize, waits: Pairs)
     let w = waits.items;
     store_four(net, at, w[0].first, w[1].first, w[2].first, w[3].first);
     store_four(net, at + 4, w[4].first, w[5].first, w[6].first, w[7].first);
-    store_four(net, at + 8, w[0].second, w[1].second, w[2].second, w[3].second);
-    store_four(net, at + 12, w[4].second, w[5].second, w[6].second, w[7].second);
+    store_four(
+        net,
+        at + 8,
+        w[0].second,
+        w[1].second,
+        w[2].second,
+        w[3].second,
+    );
+    store_four(
+        net,
+        at + 12,
+        w[4].second,
+        w[5].second,
+        w[6].second,
+        w[7].second,
+    );
     net[at + 16] = waits.len as u8;
 }
 

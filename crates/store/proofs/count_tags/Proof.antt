@@ -1,3 +1,4 @@
+-- `store::count_tags` meets its contract, by `tags-count`.
 use native.Mathlib.Omega.{arith}
 use borrow.Author.Needs.{needs}
 use Rattle.store.proofs.Queues.{tags-count}

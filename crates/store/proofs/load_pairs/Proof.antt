@@ -1,3 +1,4 @@
+-- `store::load_pairs` meets its contract, by `pairs-loaded`.
 use mathlib.Core.Path.{refl}
 use native.Mathlib.Omega.{arith}
 use borrow.Author.Needs.{needs}
@@ -61,15 +62,17 @@ clamped-requires c κs = search needs
 
 returns : tie.Need-returns
 returns c = let h = c .before .before in
-  let g = h .before in
-  let f = g .before in
-  let e = f .before in
-  let d = e .before in
-  let k = d .before in
-  let b = k .before in
-  let a = b .before in
-  (rw (c .clamped .ensures, h .pair-at8 .ensures, g .pair-at7 .ensures, f .pair-at6 .ensures, e .pair-at5 .ensures, d .pair-at4 .ensures, k .pair-at3 .ensures, b .pair-at2 .ensures, a .pair-at .ensures)
-    (pairs-loaded (a .before .args .net .now) (a .before .args .at)), record { within = omega (arith, c .clamped .ensures); size = refl })
+    let g = h .before in
+    let f = g .before in
+    let e = f .before in
+    let d = e .before in
+    let k = d .before in
+    let b = k .before in
+    let a = b .before in (
+      rw (c .clamped .ensures, h .pair-at8 .ensures, g .pair-at7 .ensures, f .pair-at6 .ensures, e .pair-at5 .ensures, d .pair-at4 .ensures, k .pair-at3 .ensures, b .pair-at2 .ensures, a .pair-at .ensures)
+          (pairs-loaded (a .before .args .net .now) (a .before .args .at)),
+      record { within = omega (arith, c .clamped .ensures); size = refl },
+    )
 
 pub load-pairs-spec : {M : Type 1} → statement M
 load-pairs-spec =

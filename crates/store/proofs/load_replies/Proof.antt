@@ -1,3 +1,4 @@
+-- `store::load_replies` meets its contract, by `replies-here`.
 use borrow.Author.Needs.{needs}
 use Rattle.store.proofs.Laws.{replies-here}
 use Rattle.store.proofs.load_replies.Statement.{statement}

@@ -1,3 +1,4 @@
+-- `store::load_requests` meets its contract, by `requests-here`.
 use borrow.Author.Needs.{needs}
 use Rattle.store.proofs.Laws.{requests-here}
 use Rattle.store.proofs.load_requests.Statement.{statement}

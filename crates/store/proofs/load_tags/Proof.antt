@@ -1,3 +1,4 @@
+-- `store::load_tags` meets its contract, by `tags-loaded`.
 use mathlib.Core.Path.{refl}
 use native.Mathlib.Omega.{arith}
 use borrow.Author.Needs.{needs}
@@ -37,8 +38,8 @@ element-copy-out-t20 c = search needs
 
 returns : tie.Need-returns
 returns c = let s = c .before .before .before .before .before .before in
-  let k = c .before .before .before .before in
-  (rw (k .clamped .ensures) (tags-loaded (s .args .net .now) (s .args .at)), record { within = omega (arith, k .clamped .ensures); size = refl })
+    let k = c .before .before .before .before in
+    (rw (k .clamped .ensures) (tags-loaded (s .args .net .now) (s .args .at)), record { within = omega (arith, k .clamped .ensures); size = refl })
 
 pub load-tags-spec : {M : Type 1} → statement M
 load-tags-spec =

@@ -1,3 +1,4 @@
+-- `store::load_waits` meets its contract, by `waits-here`.
 use borrow.Author.Needs.{needs}
 use Rattle.store.proofs.Laws.{waits-here}
 use Rattle.store.proofs.load_waits.Statement.{statement}

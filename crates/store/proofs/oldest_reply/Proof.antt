@@ -1,3 +1,4 @@
+-- `store::oldest_reply` meets its contract, by `replies-here`.
 use borrow.Author.Needs.{needs}
 use Rattle.store.proofs.Laws.{replies-here}
 use Rattle.store.proofs.oldest_reply.Statement.{statement}

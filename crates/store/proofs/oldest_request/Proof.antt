@@ -1,3 +1,4 @@
+-- `store::oldest_request` meets its contract, by `requests-here`.
 use borrow.Author.Needs.{needs}
 use Rattle.store.proofs.Laws.{requests-here}
 use Rattle.store.proofs.oldest_request.Statement.{statement}

@@ -1,3 +1,4 @@
+-- `store::oldest_tag` meets its contract, by `tags-oldest`.
 use mathlib.Core.Path.{sym}
 use borrow.Author.Needs.{needs}
 use Rattle.store.proofs.Queues.{tags-oldest}

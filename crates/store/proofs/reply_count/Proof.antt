@@ -1,3 +1,4 @@
+-- `store::reply_count` meets its contract, by `replies-here`.
 use borrow.Author.Needs.{needs}
 use Rattle.store.proofs.Laws.{replies-here}
 use Rattle.store.proofs.reply_count.Statement.{statement}

@@ -1,3 +1,4 @@
+-- `store::request_count` meets its contract, by `requests-here`.
 use borrow.Author.Needs.{needs}
 use Rattle.store.proofs.Laws.{requests-here}
 use Rattle.store.proofs.request_count.Statement.{statement}

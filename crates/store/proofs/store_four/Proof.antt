@@ -1,3 +1,4 @@
+-- `store::store_four` meets its contract, by `four-stored`.
 use borrow.Author.Needs.{needs}
 use Rattle.store.proofs.Queues.{four-stored}
 use Rattle.store.proofs.store_four.Statement.{statement}

@@ -1,3 +1,4 @@
+-- `store::store_pairs` meets its contract, by `pairs-stored`.
 use borrow.Author.Needs.{needs}
 use Rattle.store.proofs.Queues.{pairs-stored}
 use Rattle.store.proofs.store_pairs.Statement.{statement}
@@ -83,11 +84,11 @@ element-write-net c = search needs
 
 returns : tie.Need-returns
 returns c = let d = c .before in
-  let b = d .before .before in
-  let a = b .before .before in
-  let z = a .before .before in
-  let s = z .before .before .before in
-  rw (d .store-four4 .ensures, b .store-four3 .ensures, a .store-four2 .ensures, z .store-four .ensures)
+    let b = d .before .before in
+    let a = b .before .before in
+    let z = a .before .before in
+    let s = z .before .before .before in
+    rw (d .store-four4 .ensures, b .store-four3 .ensures, a .store-four2 .ensures, z .store-four .ensures)
     (pairs-stored (s .args .net .now) (s .args .at) (s .args .waits .items) (s .args .waits .len) (s .pre .1 .1 .size))
 
 pub store-pairs-spec : {M : Type 1} → statement M

@@ -1,4 +1,5 @@
-use Prim.Native.Nat.{_+_, ℕ}
+-- `store::store_replies` meets its contract, by `replies-stored`.
+use Prim.Native.Nat.{ℕ, _+_}
 use mathlib.Core.Path.{ap}
 use borrow.Author.Needs.{needs}
 use Rattle.store.proofs.Laws.{replies-stored}

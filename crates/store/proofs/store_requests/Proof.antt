@@ -1,3 +1,4 @@
+-- `store::store_requests` meets its contract, by `requests-stored`.
 use borrow.Author.Needs.{needs}
 use Rattle.store.proofs.Laws.{requests-stored}
 use Rattle.store.proofs.store_requests.Statement.{statement}

@@ -1,3 +1,4 @@
+-- `store::store_tags` meets its contract, by `tags-stored`.
 use borrow.Author.Needs.{needs}
 use Rattle.store.proofs.Queues.{tags-stored}
 use Rattle.store.proofs.store_tags.Statement.{statement}

@@ -1,3 +1,4 @@
+-- `store::wait_count` meets its contract, by `pairs-count` and `waits-here`.
 use native.Mathlib.Omega.{arith}
 use borrow.Author.Needs.{needs}
 use Rattle.store.proofs.Queues.{pairs-count}
@@ -22,7 +23,7 @@ clamped-requires c κs = search needs
 
 returns : tie.Need-returns
 returns c = let s = c .before .before .before in
-  (rw (waits-here (s .args .net .now) (s .args .level) (s .args .position) (s .pre .1), ← c .before .before .site .ensures, pairs-count) (c .clamped .ensures), omega (arith, c .clamped .ensures))
+    (rw (waits-here (s .args .net .now) (s .args .level) (s .args .position) (s .pre .1), ← c .before .before .site .ensures, pairs-count) (c .clamped .ensures), omega (arith, c .clamped .ensures))
 
 pub wait-count-spec : {M : Type 1} → statement M
 wait-count-spec =
