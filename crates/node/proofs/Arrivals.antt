@@ -153,15 +153,23 @@ module _ (n : Node) (held : HeldNode n) (requests before after : List ℕ) (t q 
     queue-after : messagesIn k q w R requests after (tagsOf (n .queue)) ≡
         messagesIn k q w R requests before older ++ (record { tag = u; address = addressIn requests u; operation = o } ∷ messagesIn k q w R requests before younger)
     queue-after =
-        rw (queue-is, map-append, messages-kept before after t u o stored k q w R requests (all-left older _ neither),
-        messages-kept before after t u o stored k q w R requests (all-left younger _ (all-right older neither)),
-        older-is before after t u o stored (older-apart t u older younger _ apart-is))
+        rw (
+          queue-is,
+          map-append,
+          messages-kept before after t u o stored k q w R requests (all-left older _ neither),
+          messages-kept before after t u o stored k q w R requests (all-left younger _ (all-right older neither)),
+          older-is before after t u o stored (older-apart t u older younger _ apart-is),
+        )
 
     waiting-after : recordsIn k q w R requests after (pairsOf waiting) ≡
         recordsIn k q w R requests before (pairsOf (n .waiting)) ++ (record { first = u; second = t; operation = operationIn before u } ∷ [])
     waiting-after =
-        rw (longer, map-append, records-kept before after t u o stored k q w R requests (pairsOf (n .waiting)) (all-right younger (all-right older neither)),
-        arriving-is before after t u o stored)
+        rw (
+          longer,
+          map-append,
+          records-kept before after t u o stored k q w R requests (pairsOf (n .waiting)) (all-right younger (all-right older neither)),
+          arriving-is before after t u o stored,
+        )
 
   pub merged-arrives : ArrivedAt n requests before after t q w (record { node = record { queue = n .queue; waiting = waiting }; outcome = Merged })
   merged-arrives = record {

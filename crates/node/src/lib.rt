@@ -63,7 +63,14 @@ pub struct Taken {
 
 impl Node {
     // A message arriving at a node with room q for messages and w for wait records.
-    pub fn arrive(mut self, requests: &[u64; 1280], operations: &mut [u64; 768], t: u8, q: usize, w: usize) -> Arrived
+    pub fn arrive(
+        mut self,
+        requests: &[u64; 1280],
+        operations: &mut [u64; 768],
+        t: u8,
+        q: usize,
+        w: usize,
+    ) -> Arrived
         requires { ⌜ HeldNode self ⌝ }
         requires { ⌜ Apart self t ⌝ }
         requires { ⌜ length (now operations) ≡ 768 ⌝ }

@@ -1,0 +1,136 @@
+-- The counts: each module step that takes a message adds one access, each arrival that merges one merge, and nothing else any.
+use Prim.Native.Nat.{ℕ, zero, suc, _+_, _-_, _≤_}
+use mathlib.Core.Path.{_≡_, refl}
+use mathlib.Core.Bool.{Bool, false}
+use mathlib.Core.List.{List, [], _∷_, _++_}
+use native.Mathlib.Omega.{arith}
+use lib.ListN.{length, length-append}
+use lib.Dec.{eqb, ltb}
+use borrow.Author.Tests.{lt-ltb, le-ltb}
+use Rattle.lists.specs.Choice.{choose, both}
+use Rattle.lists.specs.Search.{Found, absent, found}
+use Rattle.lists.proofs.Tests.{eqb-cases}
+use Rattle.event.specs.Event.{Event}
+use Rattle.machine.specs.Setup.{Setup, Message, WaitRecord, Reply, place}
+use Rattle.machine.specs.Arrival.{Arrival, merged, appended, refused, arrive, oldestOf}
+use Rattle.machine.specs.State.{State, start, standsFor}
+use Rattle.machine.specs.Steps.{nodeAt, landed, forwardOldest, forwardStep, serveOldest, moduleStep, answered, returnOldest, returnStep, collectOldest, collectStep, step}
+use Rattle.machine.specs.Run.{runEvents}
+use Rattle.machine.specs.Order.{takes, isMerged, oldestMerges, merges, stepsThat}
+use Rattle.machine.proofs.Lists.{either, ltb-either}
+
+module _ (S : Setup) where
+  open Setup S using (k, Q)
+
+  -- a message stands for one request at least
+  pub stands-some : (waits : ℕ → ℕ → List (WaitRecord S)) (s t : ℕ) → 1 ≤ length (standsFor S waits s t)
+  unfolding standsFor
+  stands-some waits zero t = omega arith
+  stands-some waits (suc s) t = rw (length-append (standsFor S waits s t)) (omega (arith, stands-some waits s t))
+
+  module _ (st : State S) where
+    -- neither count is changed
+    abbrev Same : State S → Type 0
+    Same x = (x .accesses ≡ st .accesses) × (x .merges ≡ st .merges)
+
+    return-same : (s p : ℕ) → Same (returnStep S s p st)
+    unfolding returnStep returnOldest answered
+    return-same s p = go (st .replies (suc s) p)
+      where
+        found-same : (t : Reply S) (rest : List (Reply S)) (f : Found (WaitRecord S)) → Same (answered S st s p t rest f)
+        found-same t rest absent = ltb-either Same (length (st .replies s (place S (t .tag) s))) Q (λ _. (refl, refl)) (λ _. (refl, refl))
+        found-same t rest (found older r younger) = ltb-either Same _ Q (λ _. (refl, refl)) (λ _. (refl, refl))
+
+        go : (l : List (Reply S)) → Same (returnOldest S st s p l)
+        go [] = (refl, refl)
+        go (t ∷ rest) = found-same t rest (oldestOf S (t .tag) (st .waits (suc s) p))
+
+    collect-same : (e : ℕ) → Same (collectStep S e st)
+    unfolding collectStep collectOldest
+    collect-same e = go (st .replies 0 e)
+      where
+        go : (l : List (Reply S)) → Same (collectOldest S st e l)
+        go [] = (refl, refl)
+        go (t ∷ rest) = (refl, refl)
+
+    -- an issue or a forward
+    abbrev Forwarded : Bool → State S → Type 0
+    Forwarded merging x = (x .accesses ≡ st .accesses) × (x .merges ≡ choose merging 1 0 + st .merges)
+
+    forward-counts : (s p : ℕ) → Forwarded (oldestMerges S st s (st .requests s p)) (forwardStep S s p st)
+    unfolding forwardStep forwardOldest landed
+    forward-counts s p = go (st .requests s p)
+      where
+        landed-counts : (rest : List (Message S)) (p′ : ℕ) (a : Arrival S) → Forwarded (isMerged S a) (landed S st s p rest p′ a)
+        landed-counts rest p′ (merged n) = (refl, omega arith)
+        landed-counts rest p′ (appended n) = (refl, omega arith)
+        landed-counts rest p′ refused = (refl, omega arith)
+
+        go : (l : List (Message S)) → Forwarded (oldestMerges S st s l) (forwardOldest S st s p l)
+        go [] = (refl, omega arith)
+        go (m ∷ rest) = landed-counts rest (place S (m .tag) (suc s)) (arrive S (nodeAt S st (suc s) (place S (m .tag) (suc s))) m)
+
+    -- a module step
+    abbrev Served : State S → Type 0
+    Served x = (x .accesses ≡ choose (ltb (length (st .order)) (length (x .order))) 1 0 + st .accesses) × (x .merges ≡ st .merges)
+
+    module-counts : (p : ℕ) → Served (moduleStep S p st)
+    unfolding moduleStep serveOldest
+    module-counts p = go (st .requests k p)
+      where
+        none : Served st
+        none = (rw (le-ltb (length (st .order)) (length (st .order)) (omega arith)) (omega arith), refl)
+
+        go : (l : List (Message S)) → Served (serveOldest S st p l)
+        go [] = none
+        go (m ∷ rest) = ltb-either Served (length (st .replies k p)) Q
+            (λ _. (rw (lt-ltb (length (st .order)) (length (st .order ++ standsFor S (st .waits) k (m .tag))) (omega (arith, length-append (st .order) (standsFor S (st .waits) k (m .tag)), stands-some (st .waits) k (m .tag)))) (omega arith), refl))
+            (λ _. none)
+
+    -- ---- one event
+    abbrev afterReturns : Event → State S
+    afterReturns e = choose (eqb (e .what) 3) (returnStep S (e .level - 1) (e .position) st) (choose (eqb (e .what) 4) (collectStep S (e .position) st) st)
+
+    rest-same : (e : Event) → Same (afterReturns e)
+    rest-same e = either Same (eqb (e .what) 3) (return-same (e .level - 1) (e .position)) (either Same (eqb (e .what) 4) (collect-same (e .position)) (refl, refl))
+
+    -- the two counts, where the tests for issue, forward and module come to b, c and d
+    abbrev Counted : Event → Bool → Bool → Bool → State S → Type 0
+    Counted e b c d x =
+        (x .accesses ≡ choose (both d (ltb (length (st .order)) (length (x .order)))) 1 0 + st .accesses)
+        × (x .merges ≡ choose (choose b (oldestMerges S st 0 (st .requests 0 (e .position))) (both c (oldestMerges S st (e .level) (st .requests (e .level) (e .position))))) 1 0 + st .merges)
+
+    step-counted : (e : Event) → Counted e (eqb (e .what) 0) (eqb (e .what) 1) (eqb (e .what) 2) (step S e st)
+    unfolding step
+    step-counted e =
+        let issue = forward-counts 0 (e .position) in
+        let forward = forward-counts (e .level) (e .position) in
+        let serve = module-counts (e .position) in
+        let others = rest-same e in
+        eqb-cases (λ b. Counted e b (eqb (e .what) 1) (eqb (e .what) 2) (choose b (forwardStep S 0 (e .position) st) (choose (eqb (e .what) 1) (forwardStep S (e .level) (e .position) st) (choose (eqb (e .what) 2) (moduleStep S (e .position) st) (afterReturns e))))) (e .what) 0
+        (λ z. (rw z (omega (arith, issue .0)), issue .1))
+        (λ _. eqb-cases (λ c. Counted e false c (eqb (e .what) 2) (choose c (forwardStep S (e .level) (e .position) st) (choose (eqb (e .what) 2) (moduleStep S (e .position) st) (afterReturns e)))) (e .what) 1
+        (λ z. (rw z (omega (arith, forward .0)), forward .1))
+        (λ _. eqb-cases (λ d. Counted e false false d (choose d (moduleStep S (e .position) st) (afterReturns e))) (e .what) 2
+        (λ _. (serve .0, omega (arith, serve .1)))
+        (λ _. (omega (arith, others .0), omega (arith, others .1)))))
+
+  -- ---- a list of events
+  pub events-accesses : (es : List Event) (st : State S) → runEvents S es st .accesses ≡ stepsThat S (takes S) es st + st .accesses
+  unfolding runEvents
+  events-accesses [] st = omega arith
+  events-accesses (e ∷ es) st = omega (arith, events-accesses es (step S e st), step-counted st e .0)
+
+  pub events-merges : (es : List Event) (st : State S) → runEvents S es st .merges ≡ stepsThat S (merges S) es st + st .merges
+  unfolding runEvents
+  events-merges [] st = omega arith
+  events-merges (e ∷ es) st = omega (arith, events-merges es (step S e st), step-counted st e .1)
+
+  -- from the start, where both counts are zero
+  pub run-accesses : (words : ℕ → S .Word) (es : List Event) → runEvents S es (start S words) .accesses ≡ stepsThat S (takes S) es (start S words)
+  unfolding start
+  run-accesses words es = omega (arith, events-accesses es (start S words))
+
+  pub run-merges : (words : ℕ → S .Word) (es : List Event) → runEvents S es (start S words) .merges ≡ stepsThat S (merges S) es (start S words)
+  unfolding start
+  run-merges words es = omega (arith, events-merges es (start S words))

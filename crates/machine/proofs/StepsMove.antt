@@ -1,0 +1,131 @@
+-- Each step of the machine is a move, or changes nothing: and then it has nothing to move, or no room where that would go.
+use Prim.Native.Nat.{ℕ, suc, _-_, _≤_, _<_}
+use mathlib.Core.Path.{_≡_, refl, sym, subst}
+use mathlib.Core.Bool.{Bool, true, false}
+use mathlib.Core.List.{List, [], _∷_}
+use native.Mathlib.Omega.{arith}
+use lib.ListN.{length}
+use lib.Dec.{eqb, leb, ltb}
+use borrow.Author.Tests.{ltb-true}
+use Rattle.lists.specs.Choice.{choose, both}
+use Rattle.lists.specs.Search.{Found, absent, found}
+use Rattle.event.specs.Event.{Event, levelFits}
+use Rattle.machine.specs.Setup.{Setup, Message, WaitRecord, Reply, place}
+use Rattle.machine.specs.Arrival.{Node, Arrival, merged, appended, refused, arrive, oldestOf}
+use Rattle.machine.specs.State.{State}
+use Rattle.machine.specs.Steps.{nodeAt, sent, landed, forwardOldest, forwardStep, serveOldest, moduleStep, answered, returnOldest, returnStep, collectOldest, collectStep, step}
+use Rattle.machine.specs.Lawful.{Lawful}
+use Rattle.machine.proofs.Lists.{clash, ltb-either}
+use Rattle.machine.proofs.Arrivals.{Arrived, arrive-is, Oldest, oldest-is}
+use Rattle.machine.proofs.Moves.{Move, appending, merging, serving, answering, lowering, collecting}
+
+-- both tests hold, so each does
+pub both-first : (b c : Bool) → both b c ≡ true → b ≡ true
+both-first true c h = refl
+both-first false c h = h
+
+pub both-second : (b c : Bool) → both b c ≡ true → c ≡ true
+both-second true c h = h
+both-second false c h = clash h refl
+
+-- the one or the other statement
+abbrev pub ifHolds : Bool → Type 0 → Type 0 → Type 0
+ifHolds true P Q = P
+ifHolds false P Q = Q
+
+module _ (S : Setup) where
+  open Setup S using (k, Q)
+
+  -- a move, or nothing, and then a reason why
+  pub data Does (why : Type 0) (st : State S) : State S → Type 0 where
+    idle : why → Does why st st
+    moved : {st′ : State S} → Move S st st′ → Does why st st′
+
+  -- nothing there, or a queue that is full where it would go
+  pub data Stuck {A B : Type 0} (here : List A) (next : ℕ → List B) : Type 0 where
+    nothing : here ≡ [] → Stuck here next
+    full : (q : ℕ) → Q ≤ length (next q) → Stuck here next
+
+  -- why the step of an event changes nothing
+  abbrev pub Why : Event → State S → Type 0
+  Why e st =
+      ifHolds (eqb (e .what) 0) (Stuck (st .requests 0 (e .position)) (st .requests 1))
+      (ifHolds (eqb (e .what) 1) (Stuck (st .requests (e .level) (e .position)) (st .requests (suc (e .level))))
+      (ifHolds (eqb (e .what) 2) (Stuck (st .requests k (e .position)) (λ _. st .replies k (e .position)))
+      (ifHolds (eqb (e .what) 3) (Stuck (st .replies (suc (e .level - 1)) (e .position)) (st .replies (e .level - 1)))
+      (ifHolds (eqb (e .what) 4) (st .replies 0 (e .position) ≡ [])
+      (Unit {0})))))
+
+  module _ (st : State S) where
+    -- ---- issue and forward
+    module _ (law : Lawful S) (s p : ℕ) (lt : s < k) where
+      abbrev Reason : Type 0
+      Reason = Stuck (st .requests s p) (st .requests (suc s))
+
+      landed-does : (m : Message S) (rest : List (Message S)) → st .requests s p ≡ m ∷ rest
+          → (a : Arrival S) → Arrived S (nodeAt S st (suc s) (place S (m .tag) (suc s))) m a → Does Reason st (landed S st s p rest (place S (m .tag) (suc s)) a)
+      unfolding landed
+      landed-does m rest is (merged n) h = subst (λ (x : Node S). Does Reason st (sent S st s p rest (place S (m .tag) (suc s)) x (suc (st .merges)))) (sym (h .node))
+          (moved (merging s p m rest (h .older) (h .into) (h .younger) (h .operation) lt is (h .parts) (h .same) (h .last) (h .applies)))
+      landed-does m rest is (appended n) h = subst (λ (x : Node S). Does Reason st (sent S st s p rest (place S (m .tag) (suc s)) x (st .merges))) (sym h) (moved (appending s p m rest lt is))
+      landed-does m rest is refused h = idle (full (place S (m .tag) (suc s)) h)
+
+      pub forward-does : Does Reason st (forwardStep S s p st)
+      unfolding forwardStep forwardOldest
+      forward-does = go (st .requests s p) refl
+        where
+          go : (l : List (Message S)) → st .requests s p ≡ l → Does Reason st (forwardOldest S st s p l)
+          go [] is = idle (nothing is)
+          go (m ∷ rest) is = landed-does m rest is (arrive S (nodeAt S st (suc s) (place S (m .tag) (suc s))) m) (arrive-is S law (nodeAt S st (suc s) (place S (m .tag) (suc s))) m)
+
+    -- ---- module
+    pub module-does : (p : ℕ) → Does (Stuck (st .requests k p) (λ _. st .replies k p)) st (moduleStep S p st)
+    unfolding moduleStep serveOldest
+    module-does p = go (st .requests k p) refl
+      where
+        go : (l : List (Message S)) → st .requests k p ≡ l → Does (Stuck (st .requests k p) (λ _. st .replies k p)) st (serveOldest S st p l)
+        go [] is = idle (nothing is)
+        go (m ∷ rest) is = ltb-either (Does (Stuck (st .requests k p) (λ _. st .replies k p)) st) (length (st .replies k p)) Q (λ _. moved (serving p m rest is)) (λ h. idle (full 0 h))
+
+    -- ---- return
+    module _ (s p : ℕ) where
+      abbrev Cause : Type 0
+      Cause = Stuck (st .replies (suc s) p) (st .replies s)
+
+      answered-does : (t : Reply S) (rest : List (Reply S)) → st .replies (suc s) p ≡ t ∷ rest → (f : Found (WaitRecord S)) → Oldest S (t .tag) (st .waits (suc s) p) f → Does Cause st (answered S st s p t rest f)
+      unfolding answered
+      answered-does t rest is absent h = ltb-either (Does Cause st) (length (st .replies s (place S (t .tag) s))) Q (λ _. moved (lowering s p t rest is h)) (λ l. idle (full (place S (t .tag) s) l))
+      answered-does t rest is (found older r younger) h =
+          ltb-either (Does Cause st) (length (st .replies s (place S (r .second) s))) Q (λ _. moved (answering s p t rest older r younger is (h .0) (h .1))) (λ l. idle (full (place S (r .second) s) l))
+
+      pub return-does : Does Cause st (returnStep S s p st)
+      unfolding returnStep returnOldest
+      return-does = go (st .replies (suc s) p) refl
+        where
+          go : (l : List (Reply S)) → st .replies (suc s) p ≡ l → Does Cause st (returnOldest S st s p l)
+          go [] is = idle (nothing is)
+          go (t ∷ rest) is = answered-does t rest is (oldestOf S (t .tag) (st .waits (suc s) p)) (oldest-is S (t .tag) (st .waits (suc s) p))
+
+    -- ---- collect
+    pub collect-does : (e : ℕ) → Does (st .replies 0 e ≡ []) st (collectStep S e st)
+    unfolding collectStep collectOldest
+    collect-does e = go (st .replies 0 e) refl
+      where
+        go : (l : List (Reply S)) → st .replies 0 e ≡ l → Does (st .replies 0 e ≡ []) st (collectOldest S st e l)
+        go [] is = idle is
+        go (t ∷ rest) is = moved (collecting e t rest is)
+
+    -- ---- an event
+    choose-does : (b : Bool) {f g : Bool} {P Q : Type 0} {x y : State S} → (f ≡ true → Does P st x) → (g ≡ true → Does Q st y) → choose b f g ≡ true → Does (ifHolds b P Q) st (choose b x y)
+    choose-does true h k = h
+    choose-does false h k = k
+
+    pub step-does : Lawful S → (e : Event) → levelFits k (e .what) (e .level) ≡ true → Does (Why e st) st (step S e st)
+    unfolding step levelFits
+    step-does law e =
+        choose-does (eqb (e .what) 0) (λ _. forward-does law 0 (e .position) (law .levels))
+        (choose-does (eqb (e .what) 1) (λ h. forward-does law (e .level) (e .position) (ltb-true (e .level) k (both-second (leb 1 (e .level)) (ltb (e .level) k) h)))
+        (choose-does (eqb (e .what) 2) (λ _. module-does (e .position))
+        (choose-does (eqb (e .what) 3) (λ _. return-does (e .level - 1) (e .position))
+        (choose-does (eqb (e .what) 4) (λ _. collect-does (e .position))
+        (λ _. idle tt)))))
