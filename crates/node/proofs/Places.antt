@@ -6,8 +6,9 @@ use mathlib.Core.Bool.{Bool, true, false}
 use mathlib.Core.List.{List, [], _∷_, _++_}
 use native.Mathlib.Omega.{arith}
 use native.Mathlib.Decide.{ℕ-discrete}
-use lib.ListN.{length, getD, take, drop, set, length-append, length-take, length-drop, drop-of-length-le}
-use lib.Seq.{take-suc, drop-cons, split-at, getD-take, length-take-le, take-append-le, take-take}
+use native.Mathlib.Numerals.{add-one}
+use lib.ListN.{length, getD, take, drop, set, length-append, length-take, length-drop, length-set, drop-of-length-le}
+use lib.Seq.{take-suc, drop-cons, split-at, getD-take, length-take-le, take-append-le, take-take, take-suc-set}
 use Rattle.lists.specs.Search.{absent, found, firstOf, lastOf, nil, cons}
 use Rattle.lists.proofs.Tests.{by-cases}
 use Rattle.lists.proofs.Every.{all-append}
@@ -81,6 +82,14 @@ module _ {A : Type 0} (none : A) (test : A → Bool) (l : List A) (i : ℕ) wher
 
   pub last-below : foundAt none l (At i) ≡ lastOf test l → i < length l
   last-below e = place-below none l i (subst (Last test l) (sym e) (lastOf-is test l) .0)
+
+-- ---- a list that grows or shrinks
+module _ {A : Type 0} (x : A) {n len : ℕ} {items : List A} (h : Held n items len) (r : len < n) where
+  pub pushed : take (len + 1) (set items len x) ≡ take len items ++ (x ∷ [])
+  pushed = let z : len < length items = omega (arith, h .size) in rw (add-one, take-suc-set items len x z)
+
+  pub pushed-held : Held n (set items len x) (len + 1)
+  pushed-held = record { room = omega arith; size = simp length-set (h .size) }
 
 -- the oldest of four goes
 pub popped-four : {A : Type 0} (none : A) (l : List A) (n : ℕ) → length l ≡ 4 → 0 < n → n ≤ 4 →

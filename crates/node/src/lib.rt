@@ -79,6 +79,7 @@ impl Node {
     {
         let queue = self.queue;
         let waiting = self.waiting;
+        let records = waiting.len;
         let address = address_of(requests, t);
         let found = queue.find(requests, address);
         let Found::At(i) = found else {
@@ -91,7 +92,7 @@ impl Node {
         let Merged::One(merged) = both else {
             return self.append(t, q);
         };
-        if w <= waiting.len {
+        if w <= records {
             return self.append(t, q);
         }
         let longer = waiting.push(Pair {
@@ -187,9 +188,9 @@ impl Pairs {
         ensures { λ o. ⌜ pairsOf o ≡ pairsOf self ++ (r ∷ []) ⌝ }
         ensures { λ o. ⌜ HeldPairs o ⌝ }
     {
-        let n = self.len;
-        self.items[n] = r;
-        self.len = n + 1;
+        let end = self.len;
+        self.items[end] = r;
+        self.len = end + 1;
         self
     }
 

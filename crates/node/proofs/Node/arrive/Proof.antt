@@ -1,11 +1,12 @@
 -- `Node::arrive` meets its contract: each way out is a case of the machine's arrival.
 use Prim.Native.Nat.{suc, _<_}
-use mathlib.Core.Path.{_≡_}
+use mathlib.Core.Path.{_≡_, _∙_, ap₂}
 use native.Mathlib.Omega.{arith}
 use lib.ListN.{getD, take, drop}
 use lib.Seq.{getD-take}
 use borrow.Author.Needs.{needs}
 use Rattle.lists.specs.Search.{found}
+use Rattle.lists.specs.Table.{update}
 use Rattle.operation.specs.Operation.{merged}
 use Rattle.node.specs.Tables.{addressIn, operationIn}
 use Rattle.node.specs.Node.{tagsOf, youngestTag, foundAt, hasAddress}
@@ -81,7 +82,6 @@ append-requires-2 c κs = search needs
 
 returns-2 : tie.Need-returns-2
 returns-2 c = let s = c .before .before .before .before .before .before .before .before .before .before .before .before .before .before .before .before in
-    let i = c .before .before .before .before .before .before .before .before .before .before .found .given .0 .0 in
     appended-arrives (s .args .self) (s .pre .0) (s .args .requests .now) (s .args .operations .now) (s .args .t) (s .args .q) (s .args .w) (s .pre .1 .1 .0) (c .append2 .result) (c .append2 .ensures)
     (λ k R. arrive-never k (s .args .q) (s .args .w) R (s .args .requests .now) (s .args .operations .now) (s .args .self) (s .args .t) (s .pre .0) _ _ _ (place-read (c .before .before .before .before .before .before .before .before .before)) (rw (c .before .enum-told2 .given .1) at (merge-is (c .before .before .before))))
 
@@ -89,23 +89,23 @@ append-requires-3 : tie.Need-append-requires-3
 append-requires-3 c κs = search needs
 
 returns-3 : tie.Need-returns-3
-returns-3 c = let s = c .before .before .before .before .before .before .before .before .before .before .before .before .before .before .before .before .before .before .before in
+returns-3 c = let s = c .before .before .before .before .before .before .before .before .before .before .before .before .before .before .before .before .before .before in
     appended-arrives (s .args .self) (s .pre .0) (s .args .requests .now) (s .args .operations .now) (s .args .t) (s .args .q) (s .args .w) (s .pre .1 .1 .0) (c .append3 .result) (c .append3 .ensures)
-    (λ k R. arrive-full k (s .args .q) (s .args .w) R (s .args .requests .now) (s .args .operations .now) (s .args .self) (s .args .t) (s .pre .0) _ _ _ (place-read (c .before .before .before .before .before .before .before .before .before .before .before .before)) _ (rw (c .before .before .before .before .both .given .1) at (merge-is (c .before .before .before .before .before .before))) (c .before .if1 .taken))
+    (λ k R. arrive-full k (s .args .q) (s .args .w) R (s .args .requests .now) (s .args .operations .now) (s .args .self) (s .args .t) (s .pre .0) _ _ _ (place-read (c .before .before .before .before .before .before .before .before .before .before .before)) _ (rw (c .before .before .before .both .given .1) at (merge-is (c .before .before .before .before .before))) (c .before .if1 .taken))
 
 push-requires : tie.Need-push-requires
 push-requires c κs = search needs
 
 set-operation-requires : tie.Need-set-operation-requires
-set-operation-requires c κs = c .before .before .before .before .before .before .before .before .before .before .before .before .before .before .before .before .before .before .before .before .pre .1 .1 .0
+set-operation-requires c κs = c .before .before .before .before .before .before .before .before .before .before .before .before .before .before .before .before .before .before .before .pre .1 .1 .0
 
 set-operation-requires-2 : tie.Need-set-operation-requires-2
 set-operation-requires-2 c κs = c .before .set-operation .ensures .1
 
 returns-4 : tie.Need-returns-4
-returns-4 c = let s = c .before .before .before .before .before .before .before .before .before .before .before .before .before .before .before .before .before .before .before .before .before .before .before in
-    merged-arrives (s .args .self) (s .pre .0) (s .args .requests .now) (s .args .operations .now) _ (s .args .t) (s .args .q) (s .args .w) (s .pre .1 .0) _ _ _ (place-read (c .before .before .before .before .before .before .before .before .before .before .before .before .before .before .before .before)) _ (rw (c .before .before .before .before .before .before .before .before .both .given .1) at (merge-is (c .before .before .before .before .before .before .before .before .before .before))) (c .before .before .before .before .before .if1 .left)
-    (rw (c .before .before .set-operation .ensures .0, c .before .before .before .before .before .before .before .before .before .before .before .before .before .operation-at .ensures) at (c .set-operation2 .ensures .0)) (c .set-operation2 .ensures .1) _ (c .before .before .before .before .push .ensures .0) (c .before .before .before .before .push .ensures .1)
+returns-4 c = let s = c .before .before .before .before .before .before .before .before .before .before .before .before .before .before .before .before .before .before .before .before .before .before in
+    merged-arrives (s .args .self) (s .pre .0) (s .args .requests .now) (s .args .operations .now) _ (s .args .t) (s .args .q) (s .args .w) (s .pre .1 .0) _ _ _ (place-read (c .before .before .before .before .before .before .before .before .before .before .before .before .before .before .before)) _ (rw (c .before .before .before .before .before .before .before .both .given .1) at (merge-is (c .before .before .before .before .before .before .before .before .before))) (c .before .before .before .before .before .if1 .left)
+    (c .set-operation2 .ensures .0 ∙ ap₂ (λ f g. update f (s .args .t) g) (c .before .before .set-operation .ensures .0) (c .before .before .before .before .before .before .before .before .before .before .before .before .operation-at .ensures)) (c .set-operation2 .ensures .1) _ (c .before .before .before .before .push .ensures .0) (c .before .before .before .before .push .ensures .1)
 
 pub arrive-spec : {M : Type 1} → statement M
 arrive-spec =

@@ -1,0 +1,1 @@
+// Definitions alone so far: specs/.

@@ -1,0 +1,71 @@
+-- `text::put_counts` meets its contract: three lines.
+use Prim.Native.Nat.{_*_, _≤_}
+use native.Mathlib.Omega.{arith}
+use lib.ListN.{length, length-append}
+use borrow.Author.Needs.{needs}
+use Rattle.text.specs.Text.{bytesOf, countLines}
+use Rattle.text.specs.Written.{line, lineRoom}
+use Rattle.text.proofs.Written.{wrote-then, wrote-within, room-then}
+use Rattle.text.proofs.Lines.{countLines-are, countLines-length}
+use Rattle.text.proofs.put_counts.Statement.{statement}
+use Rattle.text.proofs.put_counts.Tie as tie
+
+-- the lines fit
+fits : (c : tie.Start) → length (countLines (c .args .accesses) (c .args .merges) (c .args .rounds)) ≤ lineRoom * 3
+fits c =
+    countLines-length (c .args .accesses) (c .args .merges) (c .args .rounds) (c .fits .accesses .fits) (c .fits .merges .fits) (c .fits .rounds .fits)
+
+slice-aggregate-put-line : tie.Need-slice-aggregate-put-line
+slice-aggregate-put-line c = search needs
+
+put-line-requires : tie.Need-put-line-requires
+unfolding bytesOf
+put-line-requires c κs =
+    simp length-append (omega (arith, simp length-append at (rw countLines-are at (fits (c .before .before .before)))))
+
+slice-aggregate-put-line-2 : tie.Need-slice-aggregate-put-line-2
+slice-aggregate-put-line-2 c = search needs
+
+put-line-requires-2 : tie.Need-put-line-requires-2
+unfolding bytesOf
+put-line-requires-2 c κs =
+    room-then (c .before .before .before .before .put-line .ensures) (line (bytesOf "merge ") _)
+    (simp length-append (omega (arith, simp length-append at (rw countLines-are at (fits (c .before .before .before .before .before .before .before .before))))))
+
+slice-aggregate-put-line-3 : tie.Need-slice-aggregate-put-line-3
+slice-aggregate-put-line-3 c = search needs
+
+put-line-requires-3 : tie.Need-put-line-requires-3
+unfolding bytesOf
+put-line-requires-3 c κs =
+    room-then
+    (wrote-then (c .before .before .before .before .before .before .before .before .before .put-line .ensures) (c .before .before .before .before .put-line2 .ensures))
+    (line (bytesOf "rounds ") _)
+    (omega (arith, rw countLines-are at (fits (c .before .before .before .before .before .before .before .before .before .before .before .before .before))))
+
+same-length : tie.Need-same-length
+same-length c = search needs
+
+returns : tie.Need-returns
+unfolding bytesOf
+returns c =
+    wrote-within (lineRoom * 3) (fits (c .before .before .before .before .before .before .before .before .before .before .before .before .before .before .before .before))
+    (rw countLines-are
+    (wrote-then
+    (wrote-then
+    (c .before .before .before .before .before .before .before .before .before .before .before .before .put-line .ensures)
+    (c .before .before .before .before .before .before .before .put-line2 .ensures))
+    (c .before .before .put-line3 .ensures)))
+
+pub put-counts-spec : {M : Type 1} → statement M
+put-counts-spec =
+    tie.close
+    (tie.spec
+    slice-aggregate-put-line
+    put-line-requires
+    slice-aggregate-put-line-2
+    put-line-requires-2
+    slice-aggregate-put-line-3
+    put-line-requires-3
+    same-length
+    returns)

@@ -1,0 +1,11 @@
+-- Laws that several proofs cite, and those for the crates above.
+pub mod Tests
+pub mod Numbers
+pub mod Records
+pub mod Contents
+pub mod Written
+pub mod Accept
+pub mod Ranges
+pub mod ActsLeft
+pub mod Loop
+pub mod Levels

@@ -1,0 +1,188 @@
+-- What the refusals leave: the fields of an accepted trace's items are in their ranges, and the sections stand in their order.
+use Prim.Native.Nat.{ℕ, zero, suc, _+_, _≤_, _<_, _^_}
+use mathlib.Core.Path.{_≡_, refl, ap, sym, _∙_, subst}
+use mathlib.Core.Logic.{_≢_}
+use mathlib.Core.Bool.{Bool, true, false, not}
+use mathlib.Core.List.{List, [], _∷_, _++_}
+use native.Mathlib.Omega.{arith}
+use lib.ListN.{length, length-append}
+use lib.Dec.{eqb, ltb, leb}
+use borrow.Author.Tests.{eqb-true, eqb-false, leb-true, ltb-true, ne-eqb}
+use Rattle.lists.specs.Choice.{choose, both}
+use Rattle.lists.specs.Search.{All, nil, cons}
+use Rattle.event.specs.Event.{Event, Act, namesStep}
+use Rattle.trace.specs.Bytes.{AreBytes}
+use Rattle.trace.specs.Item.{Shape, Word, Request, Item, shape, word, request, event, drain, kindOf, Items, none, after}
+use Rattle.trace.specs.Contents.{Contents, contents, add, shapeOf, wordsOf, requestsOf, actsOf, given, sectionOf, section, reached}
+use Rattle.operation.specs.Operation.{operandsFit}
+use Rattle.trace.specs.Refusals.{unless, orElse, mayFollow, shapeFits, requestFits, ownFault, fault}
+use Rattle.trace.specs.Check.{accepted, check, Valid, valid-none, valid-after}
+use Rattle.trace.specs.Write.{WordBytes, RequestBytes, EventBytes, AllFit, none-fit, after-fit}
+use Rattle.trace.specs.Ranges.{ShapeIn, RequestIn, EventIn, ActIn, Sound}
+use Rattle.trace.proofs.Tests.{clash, both-true, unless-zero, or-else-zero}
+use Rattle.trace.proofs.Accept.{Accepted, accepted-is}
+
+pub all-more : {A : Type 0} {P : A → Type 0} {xs : List A} {x : A} → All P xs → P x → All P (xs ++ (x ∷ []))
+all-more nil p = cons p nil
+all-more (cons q qs) p = cons q (all-more qs p)
+
+-- an item that is not refused may follow, and has no fault of its own
+pub in-order : (before : Items) (x : Item) → fault before x ≡ 0 → mayFollow (reached before) (section x) ≡ true
+unfolding fault
+in-order before x h = unless-zero (mayFollow (reached before) (section x)) 3 (or-else-zero _ _ h .0)
+
+pub own-sound : (before : Items) (x : Item) → fault before x ≡ 0 → ownFault (contents before) x ≡ 0
+unfolding fault
+own-sound before x h = or-else-zero _ _ h .1
+
+-- behind a section of the first three stand only such
+pub follow-low : (last s : ℕ) → mayFollow last s ≡ true → s < 4 → last < 4
+unfolding mayFollow
+follow-low last s h low = go (eqb last 0) refl h
+  where
+    go : (t : Bool) → eqb last 0 ≡ t → choose t (eqb s 1) (both (ltb 1 s) (leb last s)) ≡ true → last < 4
+    go true e f = omega (arith, eqb-true last 0 e)
+    go false e f = omega (arith, leb-true last s (both-true (ltb 1 s) (leb last s) f .1))
+
+-- only a shape stands first, and it stands nowhere else
+follow-some : (last s : ℕ) → mayFollow last s ≡ true → s ≢ 1 → last ≢ 0
+unfolding mayFollow
+follow-some last s h other = go (eqb last 0) refl h
+  where
+    go : (t : Bool) → eqb last 0 ≡ t → choose t (eqb s 1) (both (ltb 1 s) (leb last s)) ≡ true → last ≢ 0
+    go true e f = absurd (other (eqb-true s 1 f))
+    go false e f = eqb-false last 0 e
+
+follow-none : (last : ℕ) → mayFollow last 1 ≡ true → last ≡ 0
+unfolding mayFollow
+follow-none last h = go (eqb last 0) refl h
+  where
+    go : (t : Bool) → eqb last 0 ≡ t → choose t true false ≡ true → last ≡ 0
+    go true e f = eqb-true last 0 e
+    go false e f = clash (cc)
+
+pub section-some : (x : Item) → section x ≢ 0
+unfolding sectionOf kindOf
+section-some (shape s) = λ e. omega arith
+section-some (word w) = λ e. omega arith
+section-some (request r) = λ e. omega arith
+section-some (event e) = λ z. omega arith
+section-some (drain rounds) = λ e. omega arith
+
+has-shape : (before : Items) (x : Item) → fault before x ≡ 0 → section x ≢ 1 → reached before ≢ 0
+has-shape before x f other = follow-some (reached before) (section x) (in-order before x f) other
+
+shape-first : (before : Items) (s : Shape) → fault before (shape s) ≡ 0 → before ≡ none
+unfolding reached sectionOf kindOf
+shape-first none s h = refl
+shape-first (after before x) s h = absurd (section-some x (follow-none (section x) (in-order (after before x) (shape s) h)))
+
+pub shape-in : (s : Shape) → shapeFits s ≡ true → ShapeIn s
+unfolding shapeFits
+shape-in s h =
+    let ks = both-true (both (leb 1 (s .k)) (leb (s .k) 4)) (both (both (leb 1 (s .q)) (leb (s .q) 4)) (leb (s .w) 8)) h in
+    let k = both-true (leb 1 (s .k)) (leb (s .k) 4) (ks .0) in
+    let qs = both-true (both (leb 1 (s .q)) (leb (s .q) 4)) (leb (s .w) 8) (ks .1) in
+    let q = both-true (leb 1 (s .q)) (leb (s .q) 4) (qs .0) in
+    record {
+      k-least = leb-true 1 (s .k) (k .0);
+      k-most = leb-true (s .k) 4 (k .1);
+      q-least = leb-true 1 (s .q) (q .0);
+      q-most = leb-true (s .q) 4 (q .1);
+      w-most = leb-true (s .w) 8 (qs .1);
+    }
+
+pub shape-sound : (before : Items) (s : Shape) → fault before (shape s) ≡ 0 → ShapeIn s
+unfolding ownFault
+shape-sound before s h = shape-in s (unless-zero (shapeFits s) 4 (own-sound before (shape s) h))
+
+pub requests-few : (before : Items) (r : Request) → fault before (request r) ≡ 0 → length (requestsOf before) < 256
+unfolding ownFault
+requests-few before r h =
+    ltb-true (length (requestsOf before)) 256 (unless-zero (ltb (length (requestsOf before)) 256) 8 (or-else-zero _ _ (own-sound before (request r) h) .0))
+
+request-in : (before : Items) (r : Request) → RequestBytes r → fault before (request r) ≡ 0 → RequestIn (shapeOf before .k) r
+unfolding ownFault requestFits
+request-in before r fits h =
+    let right = unless-zero (requestFits (shapeOf before .k) r) 6 (or-else-zero _ _ (own-sound before (request r) h) .1) in
+    let parts = both-true (ltb (r .engine) (2 ^ shapeOf before .k)) (operandsFit (r .operation) (r .first) (r .second)) right in
+    record { fits = fits; engine-below = ltb-true (r .engine) (2 ^ shapeOf before .k) (parts .0); operands = parts .1 }
+
+event-in : (before : Items) (e : Event) → EventBytes e → fault before (event e) ≡ 0 → EventIn (shapeOf before .k) e
+unfolding ownFault
+event-in before e fits h = record { fits = fits; names = unless-zero (namesStep (shapeOf before .k) e) 7 (own-sound before (event e) h) }
+
+-- the same of items that need not have a shape yet
+record Within (xs : Items) : Type 0 where
+  shaped : reached xs ≢ 0 → ShapeIn (shapeOf xs)
+  words-in : All WordBytes (wordsOf xs)
+  few : length (requestsOf xs) ≤ 256
+  requests-in : All (RequestIn (shapeOf xs .k)) (requestsOf xs)
+  acts-in : All (ActIn (shapeOf xs .k)) (actsOf xs)
+
+within : (xs : Items) → Valid xs → AllFit xs → Within xs
+unfolding contents add reached sectionOf kindOf
+within none v fit = record { shaped = λ n. absurd (n refl); words-in = nil; few = omega arith; requests-in = nil; acts-in = nil }
+within (after before (shape s)) (valid-after v f) (after-fit fit fits) =
+    let i = within before v fit in
+    let first = shape-first before s f in
+    record {
+      shaped = λ n. shape-sound before s f;
+      words-in = i .words-in;
+      few = i .few;
+      requests-in = subst (λ (b : Items). All (RequestIn (s .k)) (requestsOf b)) (sym first) nil;
+      acts-in = subst (λ (b : Items). All (ActIn (s .k)) (actsOf b)) (sym first) nil;
+    }
+within (after before (word w)) (valid-after v f) (after-fit fit fits) =
+    let i = within before v fit in
+    record {
+      shaped = λ n. i .shaped (has-shape before (word w) f (λ e. omega arith));
+      words-in = all-more (i .words-in) fits;
+      few = i .few;
+      requests-in = i .requests-in;
+      acts-in = i .acts-in;
+    }
+within (after before (request r)) (valid-after v f) (after-fit fit fits) =
+    let i = within before v fit in
+    record {
+      shaped = λ n. i .shaped (has-shape before (request r) f (λ e. omega arith));
+      words-in = i .words-in;
+      few = omega (arith, requests-few before r f, length-append (requestsOf before) (r ∷ []));
+      requests-in = all-more (i .requests-in) (request-in before r fits f);
+      acts-in = i .acts-in;
+    }
+within (after before (event e)) (valid-after v f) (after-fit fit fits) =
+    let i = within before v fit in
+    record {
+      shaped = λ n. i .shaped (has-shape before (event e) f (λ z. omega arith));
+      words-in = i .words-in;
+      few = i .few;
+      requests-in = i .requests-in;
+      acts-in = all-more (i .acts-in) (event-in before e fits f);
+    }
+within (after before (drain rounds)) (valid-after v f) (after-fit fit fits) =
+    let i = within before v fit in
+    record {
+      shaped = λ n. i .shaped (has-shape before (drain rounds) f (λ e. omega arith));
+      words-in = i .words-in;
+      few = i .few;
+      requests-in = i .requests-in;
+      acts-in = all-more (i .acts-in) fits;
+    }
+
+-- of every accepted trace
+pub accepted-sound : (s : List ℕ) (xs : Items) → AreBytes s → check s ≡ accepted xs → Sound xs
+unfolding reached
+accepted-sound s xs are e = go xs (accepted-is s xs are e)
+  where
+    go : (ys : Items) → Accepted s ys → Sound ys
+    go none a = absurd (a .some refl)
+    go (after before x) a =
+        let w = within (after before x) (a .valid) (a .fit) in
+        record {
+          shape-in = w .shaped (section-some x);
+          words-in = w .words-in;
+          requests-few = w .few;
+          requests-in = w .requests-in;
+          acts-in = w .acts-in;
+        }

@@ -1,0 +1,34 @@
+-- What a test that holds, and a number of 0, say.
+use Prim.Native.Nat.{ℕ, zero, suc}
+use mathlib.Core.Path.{_≡_, refl}
+use mathlib.Core.Bool.{Bool, true, false, not}
+use native.Mathlib.Omega.{arith}
+use lib.Dec.{eqb}
+use Rattle.lists.specs.Choice.{choose, both}
+use Rattle.trace.specs.Refusals.{unless, orElse}
+
+pub by-cases : {P G : Type 0} → Dec P → (P → G) → (¬ P → G) → G
+by-cases (yes p) f g = f p
+by-cases (no n) f g = g n
+
+-- 0 and 1 differ
+pub clash : {G : Type 0} → _≡_ {A = ℕ} 0 1 → G
+clash z = let f : ⊥ = omega arith in elim f [ ]
+
+pub both-true : (t u : Bool) → both t u ≡ true → (t ≡ true) × (u ≡ true)
+both-true true u h = (refl, h)
+both-true false u h = clash (cc)
+
+pub unless-zero : (t : Bool) (n : ℕ) → unless t (suc n) ≡ 0 → t ≡ true
+unless-zero true n h = refl
+unless-zero false n h = let z : ⊥ = omega arith in elim z [ ]
+
+pub or-else-zero : (n m : ℕ) → orElse n m ≡ 0 → (n ≡ 0) × (m ≡ 0)
+unfolding orElse
+or-else-zero zero m h = (refl, h)
+or-else-zero (suc n) m h = let z : ⊥ = omega arith in elim z [ ]
+
+-- a mark is 1 where the word was given
+pub mark-test : (t : Bool) → unless (eqb (choose t 1 0) 0) 6 ≡ unless (not t) 6
+mark-test true = refl
+mark-test false = refl

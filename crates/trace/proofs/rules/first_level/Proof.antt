@@ -1,0 +1,25 @@
+use borrow.Author.Tests.{ne-eqb}
+use borrow.Author.Needs.{needs}
+use Rattle.trace.proofs.rules.first_level.Statement.{statement}
+use Rattle.trace.proofs.rules.first_level.Tie as tie
+use Rattle.trace.proofs.rules.first_level.Reads as reads
+use Rattle.trace.proofs.rules.first_level.Lts as lts
+
+-- src/rules.rt:78:1
+returns : tie.Need-returns
+returns c = rw (c .match .keys1)
+
+-- src/rules.rt:78:1
+returns-2 : tie.Need-returns-2
+returns-2 c = rw (c .match .keys2)
+
+-- src/rules.rt:78:1
+returns-3 : tie.Need-returns-3
+returns-3 c = rw (c .match .keys3)
+
+-- src/rules.rt:78:1
+returns-4 : tie.Need-returns-4
+returns-4 c = let r = c .match .rest in simp (ne-eqb _ _ (r .1), ne-eqb _ _ (r .0 .1), ne-eqb _ _ (r .0 .0 .1))
+
+pub first-level-spec : {M : Type 1} → statement M
+first-level-spec = tie.close (tie.spec returns returns-2 returns-3 returns-4)

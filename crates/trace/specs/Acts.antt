@@ -1,0 +1,56 @@
+-- The events and drains that are left of a trace at an offset, and what stands there.
+use Prim.Native.Nat.{ℕ, _+_, _≤_}
+use mathlib.Core.List.{List, [], _∷_, _++_}
+use mathlib.Core.Path.{_≡_}
+use lib.ListN.{length, take, drop}
+use Rattle.lists.specs.Search.{All}
+use Rattle.event.specs.Event.{Act}
+use Rattle.trace.specs.Item.{Item, event, drain, recordSize, Items}
+use Rattle.trace.specs.Contents.{actsOf, stepsAt}
+use Rattle.trace.specs.Write.{recordOf, Fits}
+use Rattle.trace.specs.declared.acts.Due.{Due}
+use Rattle.trace.specs.declared.acts.Due.the-variants.{End, Event, Drain}
+
+abbrev pub itemOf : Act → Item
+itemOf (Act.event e) = event e
+itemOf (Act.drain rounds) = drain rounds
+
+-- how many bytes an act's record has
+abbrev pub actSize : Act → ℕ
+actSize a = recordSize (itemOf a)
+
+unfoldable pub actsSize : List Act → ℕ
+actsSize [] = 0
+actsSize (a ∷ rest) = actSize a + actsSize rest
+
+-- the offset where the first n acts have been passed
+abbrev pub actOffset : Items → ℕ → ℕ
+actOffset xs n = stepsAt xs + actsSize (take n (actsOf xs))
+
+abbrev pub ActFits : Act → Type 0
+ActFits a = Fits (itemOf a)
+
+unfoldable pub actsWritten : List Act → List ℕ
+actsWritten [] = []
+actsWritten (a ∷ rest) = recordOf (itemOf a) ++ actsWritten rest
+
+-- from offset `at` on the trace s is just the records of these acts
+pub record Left (s : List ℕ) (at : ℕ) (left : List Act) : Type 0 where
+  pub inside : at ≤ length s
+  pub bytes-are : drop at s ≡ actsWritten left
+  pub fit : All ActFits left
+
+-- what stands where the next act is due
+abbrev pub due : List Act → Due
+due [] = End
+due (Act.event e ∷ rest) = Event (e .what) (e .level) (e .position)
+due (Act.drain rounds ∷ rest) = Drain rounds
+
+-- there are such acts
+pub record ActsLeft (s : List ℕ) (at : ℕ) : Type 0 where
+  pub left : List Act
+  pub are-left : Left s at left
+
+-- and what was read is the next of them
+pub record ActRead (s : List ℕ) (at : ℕ) (r : Due) : Type 0 where
+  pub is : (left : List Act) → Left s at left → r ≡ due left

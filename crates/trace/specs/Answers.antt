@@ -1,0 +1,71 @@
+-- This paper's number and values for each answer of the code.
+use Prim.Native.Nat.{ℕ, _+_, _≤_, _<_}
+use mathlib.Core.List.{List}
+use mathlib.Core.Path.{_≡_}
+use lib.ListN.{length, getD, take, drop}
+use Rattle.lists.specs.Choice.{choose}
+use Rattle.trace.specs.Bytes.{Split, nothing, faulty, whole, bodySize}
+use Rattle.trace.specs.Item.{Items, size}
+use Rattle.trace.specs.Contents.{shapeOf, wordsOf, requestsOf, given, startWords, requestTable, stepsAt}
+use Rattle.trace.specs.Check.{Verdict, refused, accepted, itemsOf, check}
+use Rattle.trace.specs.declared.Fault.{Fault}
+use Rattle.trace.specs.declared.Fault.the-variants.{Cut, Kind, Length, Order, Range, Twice, Operand, Step, Many, Long}
+use Rattle.trace.specs.declared.record.Head.{Head}
+use Rattle.trace.specs.declared.record.Head.the-variants.{End, Bad, Record}
+use Rattle.trace.specs.declared.Facts.{Facts}
+use Rattle.trace.specs.declared.Answer.{Answer}
+use Rattle.trace.specs.declared.Answer.the-variants.{Refused, Accepted}
+
+-- the table's column "no."
+abbrev pub numberOf : Fault → ℕ
+numberOf Cut = 1
+numberOf Kind = 2
+numberOf Length = 3
+numberOf Order = 4
+numberOf Range = 5
+numberOf Twice = 6
+numberOf Operand = 7
+numberOf Step = 8
+numberOf Many = 9
+numberOf Long = 10
+
+-- what a head says of the trace s at offset `at`
+abbrev pub headSays : List ℕ → ℕ → Head → Split
+headSays s at End = nothing
+headSays s at (Bad f) = faulty (numberOf f)
+headSays s at (Record kind size) = whole kind (take size (drop (at + 4) s))
+
+-- the body that a head announces lies in a trace of n bytes, and its kind has its size
+pub record RecordFits (n at kind size : ℕ) : Type 0 where
+  pub inside : at + 4 + size ≤ n
+  pub right : size ≡ bodySize kind
+  pub some : 0 < size
+
+abbrev pub HeadFits : ℕ → ℕ → Head → Type 0
+HeadFits n at End = Unit {0}
+HeadFits n at (Bad f) = Unit {0}
+HeadFits n at (Record kind size) = RecordFits n at kind size
+
+-- what a trace is told: a number and an offset, or that it is accepted, with k, Q, W, R and the offset of the first act
+pub data Told : Type 0 where
+  refusal : ℕ → ℕ → Told
+  acceptance : Facts → Told
+
+abbrev pub factsOf : Items → Facts
+factsOf xs = record { k = shapeOf xs .k; q = shapeOf xs .q; w = shapeOf xs .w; requests = length (requestsOf xs); steps = stepsAt xs }
+
+-- "The answer is the number and the offset of the faulty record's first byte; for 10 .. and an empty trace the offset is 0"
+abbrev pub told : Verdict → Told
+told (refused n before) = refusal n (size before)
+told (accepted xs) = acceptance (factsOf xs)
+
+abbrev pub says : Answer → Told
+says (Refused f at) = refusal (numberOf f) at
+says (Accepted facts) = acceptance facts
+
+-- the answer, and the marks, the memory and the table after a trace is loaded: those of the items before the fault, where there is one
+pub record Loaded (s : List ℕ) (r : Answer) (marks words table : List ℕ) : Type 0 where
+  pub answer : says r ≡ told (check s)
+  pub marks-are : (a : ℕ) → a < 256 → getD marks a 0 ≡ choose (given (wordsOf (itemsOf (check s))) a) 1 0
+  pub words-are : words ≡ startWords (wordsOf (itemsOf (check s)))
+  pub table-is : table ≡ requestTable (requestsOf (itemsOf (check s)))

@@ -1,0 +1,80 @@
+-- What items say together: the shape, the words, the requests and the acts, and the memory and the table that follow from them.
+use Prim.Native.Nat.{ℕ, _*_, _-_, _+_}
+use mathlib.Core.Bool.{Bool, true, false}
+use mathlib.Core.List.{List, [], _∷_, _++_}
+use lib.ListN.{length, set, replicate}
+use lib.Dec.{eqb, ltb}
+use Rattle.lists.specs.Choice.{choose}
+use Rattle.event.specs.Event.{Act}
+use Rattle.trace.specs.Item.{Shape, Word, Request, Item, shape, word, request, event, drain, kindOf, recordSize, Items, none, after}
+
+-- each list in the order of the trace; the shape is zeros before there is one
+pub record Contents : Type 0 where
+  pub shape : Shape
+  pub words : List Word
+  pub requests : List Request
+  pub acts : List Act
+
+unfoldable pub add : Contents → Item → Contents
+add c (shape s) = record { shape = s; words = c .words; requests = c .requests; acts = c .acts }
+add c (word w) = record { shape = c .shape; words = c .words ++ (w ∷ []); requests = c .requests; acts = c .acts }
+add c (request r) = record { shape = c .shape; words = c .words; requests = c .requests ++ (r ∷ []); acts = c .acts }
+add c (event e) = record { shape = c .shape; words = c .words; requests = c .requests; acts = c .acts ++ (Act.event e ∷ []) }
+add c (drain rounds) = record { shape = c .shape; words = c .words; requests = c .requests; acts = c .acts ++ (Act.drain rounds ∷ []) }
+
+unfoldable pub contents : Items → Contents
+contents none = record { shape = record { k = 0; q = 0; w = 0 }; words = []; requests = []; acts = [] }
+contents (after before x) = add (contents before) x
+
+abbrev pub shapeOf : Items → Shape
+shapeOf xs = contents xs .shape
+
+abbrev pub wordsOf : Items → List Word
+wordsOf xs = contents xs .words
+
+abbrev pub requestsOf : Items → List Request
+requestsOf xs = contents xs .requests
+
+abbrev pub actsOf : Items → List Act
+actsOf xs = contents xs .acts
+
+-- one of the words has address a
+unfoldable pub given : List Word → ℕ → Bool
+given [] a = false
+given (w ∷ ws) a = choose (eqb (w .address) a) true (given ws a)
+
+unfoldable pub putWords : List ℕ → List Word → List ℕ
+putWords memory [] = memory
+putWords memory (w ∷ ws) = putWords (set memory (w .address) (w .value)) ws
+
+-- "A word without a record starts at zero": 256 zeros, then each word record
+unfoldable pub startWords : List Word → List ℕ
+startWords ws = putWords (replicate 256 0) ws
+
+unfoldable pub row : Request → List ℕ
+row r = r .engine ∷ r .operation ∷ r .address ∷ r .first ∷ r .second ∷ []
+
+unfoldable pub rows : List Request → List ℕ
+rows [] = []
+rows (r ∷ rs) = row r ++ rows rs
+
+-- the requests as a table of 256 rows of 5 numbers, zeros behind the last: "The tag of a request is its place in the trace, from 0"
+unfoldable pub requestTable : List Request → List ℕ
+requestTable rs = rows rs ++ replicate (1280 - 5 * length rs) 0
+
+-- "one shape; words; requests; events and drains mixed": the section of a kind
+unfoldable pub sectionOf : ℕ → ℕ
+sectionOf kind = choose (eqb kind 1) 1 (choose (eqb kind 2) 2 (choose (eqb kind 3) 3 4))
+
+abbrev pub section : Item → ℕ
+section x = sectionOf (kindOf x)
+
+-- the section of the last item, 0 before the first
+unfoldable pub reached : Items → ℕ
+reached none = 0
+reached (after before x) = section x
+
+-- the offset of the first act: how many bytes the items of the other sections have
+unfoldable pub stepsAt : Items → ℕ
+stepsAt none = 0
+stepsAt (after before x) = choose (ltb (section x) 4) (stepsAt before + recordSize x) (stepsAt before)

@@ -1,0 +1,10 @@
+pub mod Bytes
+pub mod Item
+pub mod Contents
+pub mod Refusals
+pub mod Check
+pub mod Answers
+pub mod Write
+pub mod Ranges
+pub mod Acts
+pub mod Loop

@@ -1,0 +1,39 @@
+-- What holds of the contents of every accepted trace: document 01, "Sizes", and each field within its bytes.
+use Prim.Native.Nat.{ℕ, _≤_, _<_, _^_}
+use mathlib.Core.Path.{_≡_}
+use mathlib.Core.Bool.{true}
+use lib.ListN.{length}
+use Rattle.lists.specs.Search.{All}
+use Rattle.event.specs.Event.{Event, Act, namesStep}
+use Rattle.trace.specs.Item.{Shape, Request, Items}
+use Rattle.trace.specs.Contents.{shapeOf, wordsOf, requestsOf, actsOf}
+use Rattle.operation.specs.Operation.{operandsFit}
+use Rattle.trace.specs.Write.{WordBytes, RequestBytes, EventBytes}
+
+-- "k 1 to 4; queue room Q 1 to 4; wait room W 0 to 8"
+pub record ShapeIn (s : Shape) : Type 0 where
+  pub k-least : 1 ≤ s .k
+  pub k-most : s .k ≤ 4
+  pub q-least : 1 ≤ s .q
+  pub q-most : s .q ≤ 4
+  pub w-most : s .w ≤ 8
+
+pub record RequestIn (k : ℕ) (r : Request) : Type 0 where
+  pub fits : RequestBytes r
+  pub engine-below : r .engine < 2 ^ k
+  pub operands : operandsFit (r .operation) (r .first) (r .second) ≡ true
+
+pub record EventIn (k : ℕ) (e : Event) : Type 0 where
+  pub fits : EventBytes e
+  pub names : namesStep k e ≡ true
+
+abbrev pub ActIn : ℕ → Act → Type 0
+ActIn k (Act.event e) = EventIn k e
+ActIn k (Act.drain rounds) = rounds < 65536
+
+pub record Sound (xs : Items) : Type 0 where
+  pub shape-in : ShapeIn (shapeOf xs)
+  pub words-in : All WordBytes (wordsOf xs)
+  pub requests-few : length (requestsOf xs) ≤ 256
+  pub requests-in : All (RequestIn (shapeOf xs .k)) (requestsOf xs)
+  pub acts-in : All (ActIn (shapeOf xs .k)) (actsOf xs)

@@ -1,0 +1,89 @@
+// One turn of the check: a record, or a run of acts.
+ghost use mathlib.Core.Path.{_≡_};
+ghost use Prim.Native.Nat.{_≤_};
+ghost use lib.ListN.{length};
+ghost use Rattle.trace.specs.Loop.{Inside, TurnRight, Passed, Onward};
+use crate::Fault;
+use crate::bytes::number4;
+use crate::progress::Progress;
+use crate::progress::noted;
+use crate::record::Head;
+use crate::record::body;
+use crate::record::head_at;
+use crate::rules::Finding;
+use crate::rules::names_step;
+use crate::rules::record_fault;
+
+pub enum Turn {
+    Stop,
+    Fail(Fault),
+    Go(Progress),
+}
+
+// One record: the end, a fault, or past it.
+pub fn one_turn(
+    s: &[u8],
+    p: Progress,
+    marks: &mut [u8; 256],
+    words: &mut [u64; 256],
+    table: &mut [u64; 1280],
+) -> Turn
+    requires { ⌜ Inside (now s) p (now marks) (now words) (now table) ⌝ }
+    ensures { λ r. ⌜ TurnRight (now (s .entry)) p (now (marks .exit)) (now (words .exit)) (now (table .exit)) r ⌝ }
+{
+    let at = p.at;
+    let found = head_at(s, at);
+    match found {
+        Head::End => Turn::Stop,
+        Head::Bad(f) => Turn::Fail(f),
+        Head::Record(kind, size) => {
+            let b = body(s, at, size);
+            let finding = record_fault(b, kind, p, marks);
+            match finding {
+                Finding::Sound => Turn::Go(noted(b, kind, p, marks, words, table)),
+                Finding::Faulty(f) => Turn::Fail(f),
+            }
+        }
+    }
+}
+
+// The end of the events and drains that are not refused, from an offset on. A header is told by one number: 3 + 65536 * 4 an event's, 2 + 65536 * 5 a drain's.
+fn acts_end(s: &[u8], at: usize, k: u8) -> usize
+    requires { ⌜ (at ≤ length (now s)) × (length (now s) ≤ 65536) × (k ≤ 4) ⌝ }
+    ensures { λ r. ⌜ Passed (now (s .entry)) k at r ⌝ }
+{
+    let mut i = at;
+    loop {
+        let left = s.len() - i;
+        if left < 6 {
+            return i;
+        }
+        let head = number4(s, i);
+        if head == 327682 {
+            i += 6;
+        } else {
+            if head != 262147 {
+                return i;
+            }
+            if left < 7 {
+                return i;
+            }
+            if names_step(k, s[i + 4], s[i + 5], s[i + 6]) {
+                i += 7;
+            } else {
+                return i;
+            }
+        }
+    }
+}
+
+// Past the acts that are not refused: most of a long trace, so they take the short way.
+pub fn past_acts(s: &[u8], mut p: Progress) -> Progress
+    requires { ⌜ (p .at ≤ length (now s)) × (length (now s) ≤ 65536) × (p .k ≤ 4) ⌝ }
+    ensures { λ r. ⌜ Onward (now (s .entry)) p r ⌝ }
+{
+    if p.section == 4 {
+        p.at = acts_end(s, p.at, p.k);
+    }
+    p
+}
