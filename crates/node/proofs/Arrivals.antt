@@ -36,53 +36,52 @@ appended-not-refused e = let z : _≡_ {A = ℕ} 0 1 = cc in omega arith
 merged-not-refused : Merged ≡ Refused → ⊥
 merged-not-refused e = let z : _≡_ {A = ℕ} 0 1 = cc in omega arith
 
-module _ (k q w R : ℕ) (requests before : List ℕ) where
-  module _ (n : Node) (t : ℕ) (held : HeldNode n) where
-    length-queue : length (messagesIn k q w R requests before (tagsOf (n .queue))) ≡ n .queue .len
-    length-queue = length-map (tagsOf (n .queue)) (messageIn k q w R requests before) ∙ held-length (held .queue)
+module _ (k q w R : ℕ) (requests before : List ℕ) (n : Node) (t : ℕ) (held : HeldNode n) where
+  length-queue : length (messagesIn k q w R requests before (tagsOf (n .queue))) ≡ n .queue .len
+  length-queue = length-map (tagsOf (n .queue)) (messageIn k q w R requests before) ∙ held-length (held .queue)
 
-    length-waiting : length (recordsIn k q w R requests before (pairsOf (n .waiting))) ≡ n .waiting .len
-    length-waiting = length-map (pairsOf (n .waiting)) (recordIn k q w R requests before) ∙ held-length (held .waiting)
+  length-waiting : length (recordsIn k q w R requests before (pairsOf (n .waiting))) ≡ n .waiting .len
+  length-waiting = length-map (pairsOf (n .waiting)) (recordIn k q w R requests before) ∙ held-length (held .waiting)
 
-    -- ---- appending, by its cases
-    pub append-room : (after : Node) → n .queue .len < q → tagsOf (after .queue) ≡ tagsOf (n .queue) ++ (t ∷ []) → pairsOf (after .waiting) ≡ pairsOf (n .waiting) →
-        append (network k q w R requests) (nodeIn k q w R requests before n) (messageIn k q w R requests before t) ≡
-        appended (nodeIn k q w R requests before after)
-    unfolding append
-    append-room after r e s = rw (length-queue, lt-ltb _ _ r, e, s, map-append)
+  -- ---- appending, by its cases
+  pub append-room : (after : Node) → n .queue .len < q → tagsOf (after .queue) ≡ tagsOf (n .queue) ++ (t ∷ []) → pairsOf (after .waiting) ≡ pairsOf (n .waiting) →
+      append (network k q w R requests) (nodeIn k q w R requests before n) (messageIn k q w R requests before t) ≡
+      appended (nodeIn k q w R requests before after)
+  unfolding append
+  append-room after r e s = rw (length-queue, lt-ltb _ _ r, e, s, map-append)
 
-    pub append-full : q ≤ n .queue .len →
-        append (network k q w R requests) (nodeIn k q w R requests before n) (messageIn k q w R requests before t) ≡ refused
-    unfolding append
-    append-full r = rw (length-queue, le-ltb _ _ r)
+  pub append-full : q ≤ n .queue .len →
+      append (network k q w R requests) (nodeIn k q w R requests before n) (messageIn k q w R requests before t) ≡ refused
+  unfolding append
+  append-full r = rw (length-queue, le-ltb _ _ r)
 
-    -- ---- an arrival, by its cases
-    abbrev Arrives : Arrival (network k q w R requests) → Type 0
-    Arrives a = arrive (network k q w R requests) (nodeIn k q w R requests before n) (messageIn k q w R requests before t) ≡ a
+  -- ---- an arrival, by its cases
+  abbrev Arrives : Arrival (network k q w R requests) → Type 0
+  Arrives a = arrive (network k q w R requests) (nodeIn k q w R requests before n) (messageIn k q w R requests before t) ≡ a
 
-    abbrev Appends : Type 0
-    Appends = Arrives (append (network k q w R requests) (nodeIn k q w R requests before n) (messageIn k q w R requests before t))
+  abbrev Appends : Type 0
+  Appends = Arrives (append (network k q w R requests) (nodeIn k q w R requests before n) (messageIn k q w R requests before t))
 
-    pub arrive-alone : absent ≡ youngestTag requests (addressIn requests t) (tagsOf (n .queue)) → Appends
-    unfolding arrive meet
-    arrive-alone e = rw (youngest-tag, ← e)
+  pub arrive-alone : absent ≡ youngestTag requests (addressIn requests t) (tagsOf (n .queue)) → Appends
+  unfolding arrive meet
+  arrive-alone e = rw (youngest-tag, ← e)
 
-    module _ (older : List ℕ) (u : ℕ) (younger : List ℕ) (f : found older u younger ≡ youngestTag requests (addressIn requests t) (tagsOf (n .queue))) where
-      pub arrive-never : Never ≡ operations.merged (operationIn before u) (operationIn before t) → Appends
-      unfolding arrive meet combine
-      arrive-never e = rw (youngest-tag, ← f, ← e)
+  module _ (older : List ℕ) (u : ℕ) (younger : List ℕ) (f : found older u younger ≡ youngestTag requests (addressIn requests t) (tagsOf (n .queue))) where
+    pub arrive-never : Never ≡ operations.merged (operationIn before u) (operationIn before t) → Appends
+    unfolding arrive meet combine
+    arrive-never e = rw (youngest-tag, ← f, ← e)
 
-      pub arrive-full : (o : Operation) → One o ≡ operations.merged (operationIn before u) (operationIn before t) → w ≤ n .waiting .len → Appends
-      unfolding arrive meet combine
-      arrive-full o e r = rw (youngest-tag, ← f, ← e, length-waiting, le-ltb _ _ r)
+    pub arrive-full : (o : Operation) → One o ≡ operations.merged (operationIn before u) (operationIn before t) → w ≤ n .waiting .len → Appends
+    unfolding arrive meet combine
+    arrive-full o e r = rw (youngest-tag, ← f, ← e, length-waiting, le-ltb _ _ r)
 
-      arrive-combined : (o : Operation) → One o ≡ operations.merged (operationIn before u) (operationIn before t) → n .waiting .len < w →
-          Arrives (merged (record {
-            queue = messagesIn k q w R requests before older ++ (record { tag = u; address = addressIn requests u; operation = o } ∷ messagesIn k q w R requests before younger);
-            waiting = recordsIn k q w R requests before (pairsOf (n .waiting)) ++ (record { first = u; second = t; operation = operationIn before u } ∷ []);
-          }))
-      unfolding arrive meet combine
-      arrive-combined o e r = rw (youngest-tag, ← f, ← e, length-waiting, lt-ltb _ _ r)
+    arrive-combined : (o : Operation) → One o ≡ operations.merged (operationIn before u) (operationIn before t) → n .waiting .len < w →
+        Arrives (merged (record {
+          queue = messagesIn k q w R requests before older ++ (record { tag = u; address = addressIn requests u; operation = o } ∷ messagesIn k q w R requests before younger);
+          waiting = recordsIn k q w R requests before (pairsOf (n .waiting)) ++ (record { first = u; second = t; operation = operationIn before u } ∷ []);
+        }))
+    unfolding arrive meet combine
+    arrive-combined o e r = rw (youngest-tag, ← f, ← e, length-waiting, lt-ltb _ _ r)
 
 -- ---- the tables after a merge
 -- a tag that is neither of the two
