@@ -1,23 +1,23 @@
 -- Which traces are accepted, and with which items: just those that are the items written, none of them refused.
-use Prim.Native.Nat.{ℕ, zero, suc, _+_, _≤_}
+use Prim.Native.Nat.{ℕ, zero, suc, _≤_}
 use mathlib.Core.Path.{_≡_, refl, ap, sym, _∙_, subst}
-use mathlib.Core.Logic.{_≢_}
-use mathlib.Core.List.{List, [], _∷_, _++_, append-assoc, append-nil}
+use mathlib.Core.Logic.{_≢_, _↔_}
+use mathlib.Core.List.{List, [], _++_, append-assoc, append-nil}
 use mathlib.Core.Bool.{Bool, true, false}
 use native.Mathlib.Omega.{arith}
-use lib.ListN.{length, take, length-append, length-take}
+use lib.ListN.{length, take, length-append}
 use lib.Seq.{take-at}
-use lib.Dec.{eqb, ltb}
+use lib.Dec.{ltb}
 use borrow.Author.Tests.{ltb-false, le-ltb}
 use Rattle.lists.specs.Choice.{choose}
-use Rattle.trace.specs.Bytes.{AreBytes, Split, nothing, faulty, whole, split}
-use Rattle.trace.specs.Item.{Item, Items, none, after, size, recordSize, Records, done, broken, next, cut, records, recordsUpTo}
+use Rattle.trace.specs.Bytes.{AreBytes}
+use Rattle.trace.specs.Item.{Item, Items, none, after, size, Records, done, broken, next, records, recordsUpTo}
 use Rattle.trace.specs.Refusals.{fault}
-use Rattle.trace.specs.Check.{Verdict, refused, accepted, ended, decide, judge, check, Valid, valid-none, valid-after}
+use Rattle.trace.specs.Check.{refused, accepted, ended, decide, judge, check, Valid, valid-none, valid-after}
 use Rattle.trace.specs.Write.{recordOf, traceOf, AllFit, none-fit, after-fit}
 use Rattle.trace.proofs.Tests.{clash}
 use Rattle.trace.proofs.Records.{records-done}
-use Rattle.trace.proofs.Written.{length-record, records-written, First, first-of}
+use Rattle.trace.proofs.Written.{length-record, records-written, first-of}
 
 pub record Accepted (s : List ℕ) (xs : Items) : Type 0 where
   pub short : length s ≤ 65536
@@ -39,6 +39,7 @@ judge-written (after before x) (valid-after v sound) (after-fit fit fits) back =
     rw (append-assoc (traceOf before) (recordOf x) back)
     (judge-written before v fit (recordOf x ++ back) ∙ rw (records-written x fits back, sound))
 
+-- items that are written are read back, where none is refused
 pub accepts : (before : Items) (x : Item) → Valid (after before x) → AllFit (after before x) → length (traceOf (after before x)) ≤ 65536 →
     check (traceOf (after before x)) ≡ accepted (after before x)
 unfolding check ended judge records recordsUpTo
@@ -89,6 +90,13 @@ pub is-accepted : (s : List ℕ) (xs : Items) → Accepted s xs → check s ≡ 
 is-accepted s none a = absurd (a .some refl)
 is-accepted s (after before x) a =
     rw (a .bytes-are) (accepts before x (a .valid) (a .fit) (rw (a .bytes-are) at (a .short)))
+
+pub accepted-iff : (s : List ℕ) (xs : Items) → AreBytes s → (check s ≡ accepted xs) ↔ Accepted s xs
+accepted-iff s xs are = (accepted-is s xs are, is-accepted s xs)
+
+-- what was read from an accepted trace is written as the same bytes
+pub written-again : (s : List ℕ) (xs : Items) → AreBytes s → check s ≡ accepted xs → traceOf xs ≡ s
+written-again s xs are e = sym (accepted-is s xs are e .bytes-are)
 
 valid-before : {before : Items} {x : Item} → Valid (after before x) → Valid before
 valid-before (valid-after v f) = v

@@ -4,7 +4,7 @@ use mathlib.Core.Path.{_≡_, refl, ap, sym, _∙_}
 use mathlib.Core.Bool.{Bool, true, false}
 use mathlib.Core.List.{List, [], _∷_, _++_, append-assoc, append-nil}
 use native.Mathlib.Omega.{arith}
-use lib.ListN.{length, getD, take, drop, set, replicate, length-append, length-set, length-replicate, replicate-append-replicate, List·getD-append}
+use lib.ListN.{length, getD, drop, set, replicate, length-append, length-set, length-replicate, replicate-append-replicate, List·getD-append}
 use lib.Seq.{sets, sets-eq, take-at, drop-append-add, getD-append-add}
 use lib.Dec.{eqb}
 use Rattle.lists.specs.Choice.{choose}

@@ -7,5 +7,9 @@ pub mod Written
 pub mod Accept
 pub mod Ranges
 pub mod ActsLeft
-pub mod Loop
+pub mod Known
+pub mod Verdicts
+pub mod Runs
 pub mod Levels
+pub mod Answers
+pub mod Examples

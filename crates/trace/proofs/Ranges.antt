@@ -1,23 +1,23 @@
 -- What the refusals leave: the fields of an accepted trace's items are in their ranges, and the sections stand in their order.
-use Prim.Native.Nat.{ℕ, zero, suc, _+_, _≤_, _<_, _^_}
-use mathlib.Core.Path.{_≡_, refl, ap, sym, _∙_, subst}
+use Prim.Native.Nat.{ℕ, _≤_, _<_, _^_}
+use mathlib.Core.Path.{_≡_, refl, sym, subst}
 use mathlib.Core.Logic.{_≢_}
-use mathlib.Core.Bool.{Bool, true, false, not}
+use mathlib.Core.Bool.{Bool, true, false}
 use mathlib.Core.List.{List, [], _∷_, _++_}
 use native.Mathlib.Omega.{arith}
 use lib.ListN.{length, length-append}
 use lib.Dec.{eqb, ltb, leb}
-use borrow.Author.Tests.{eqb-true, eqb-false, leb-true, ltb-true, ne-eqb}
+use borrow.Author.Tests.{eqb-true, eqb-false, leb-true, ltb-true}
 use Rattle.lists.specs.Choice.{choose, both}
 use Rattle.lists.specs.Search.{All, nil, cons}
-use Rattle.event.specs.Event.{Event, Act, namesStep}
+use Rattle.event.specs.Event.{Event, namesStep}
 use Rattle.trace.specs.Bytes.{AreBytes}
-use Rattle.trace.specs.Item.{Shape, Word, Request, Item, shape, word, request, event, drain, kindOf, Items, none, after}
-use Rattle.trace.specs.Contents.{Contents, contents, add, shapeOf, wordsOf, requestsOf, actsOf, given, sectionOf, section, reached}
+use Rattle.trace.specs.Item.{Shape, Request, Item, shape, word, request, event, drain, kindOf, Items, none, after}
+use Rattle.trace.specs.Contents.{contents, add, shapeOf, wordsOf, requestsOf, actsOf, sectionOf, section, reached}
 use Rattle.operation.specs.Operation.{operandsFit}
-use Rattle.trace.specs.Refusals.{unless, orElse, mayFollow, shapeFits, requestFits, ownFault, fault}
-use Rattle.trace.specs.Check.{accepted, check, Valid, valid-none, valid-after}
-use Rattle.trace.specs.Write.{WordBytes, RequestBytes, EventBytes, AllFit, none-fit, after-fit}
+use Rattle.trace.specs.Refusals.{mayFollow, shapeFits, requestFits, ownFault, fault}
+use Rattle.trace.specs.Check.{accepted, check, Valid, valid-after}
+use Rattle.trace.specs.Write.{WordBytes, RequestBytes, EventBytes, AllFit, after-fit}
 use Rattle.trace.specs.Ranges.{ShapeIn, RequestIn, EventIn, ActIn, Sound}
 use Rattle.trace.proofs.Tests.{clash, both-true, unless-zero, or-else-zero}
 use Rattle.trace.proofs.Accept.{Accepted, accepted-is}

@@ -1,19 +1,19 @@
 -- The record that stands first: what it is by its bytes, and that the others are the records of the rest.
-use Prim.Native.Nat.{ℕ, zero, suc, _+_, _-_, _≤_, _<_, _^_}
+use Prim.Native.Nat.{ℕ, zero, suc, _+_, _-_, _≤_, _<_}
 use mathlib.Core.Path.{_≡_, refl, ap, sym, _∙_, subst}
 use mathlib.Core.Logic.{_≢_}
-use mathlib.Core.List.{List, [], _∷_, _++_, append-assoc, append-nil}
+use mathlib.Core.List.{List, [], _∷_}
 use mathlib.Core.Bool.{Bool, true, false, not}
 use native.Mathlib.Omega.{arith}
 use native.Mathlib.Nat.{add-zero}
 use native.Mathlib.Decide.{ℕ-discrete}
-use lib.ListN.{length, getD, take, drop, length-append, length-drop, take-append-drop}
-use lib.Seq.{drop-drop, length-take-le, take-at, drop-at, drop-append-seam}
+use lib.ListN.{length, take, drop, length-drop}
+use lib.Seq.{drop-drop, length-take-le}
 use lib.Dec.{eqb, ltb}
-use borrow.Author.Tests.{lt-ltb, le-ltb, eq-eqb, ne-eqb, eqb-true, eqb-false, ltb-false}
+use borrow.Author.Tests.{le-ltb, eq-eqb, ne-eqb, eqb-true, eqb-false, ltb-false}
 use Rattle.lists.specs.Choice.{choose}
-use Rattle.trace.specs.Bytes.{AreBytes, number, bodySize, Split, nothing, faulty, whole, split}
-use Rattle.trace.specs.Item.{Item, shape, word, request, event, drain, shapeIn, wordIn, requestIn, eventIn, kindOf, item, recordSize, Records, done, broken, next, cut, recordsUpTo, records}
+use Rattle.trace.specs.Bytes.{number, bodySize, Split, nothing, faulty, whole, split}
+use Rattle.trace.specs.Item.{shape, word, request, event, drain, shapeIn, wordIn, requestIn, eventIn, kindOf, item, recordSize, Records, done, broken, next, cut, recordsUpTo, records}
 use Rattle.trace.specs.Contents.{sectionOf, section}
 use Rattle.trace.specs.Answers.{RecordFits}
 use Rattle.trace.proofs.Tests.{by-cases, clash}

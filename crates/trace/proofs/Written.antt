@@ -1,16 +1,16 @@
 -- An item's record, written and read: what is written is read back, and of bytes that are read as an item, the item's record is written again.
-use Prim.Native.Nat.{ℕ, zero, suc, _+_, _-_, _≤_, _<_, _^_}
-use mathlib.Core.Path.{_≡_, refl, ap, sym, _∙_, subst}
-use mathlib.Core.List.{List, [], _∷_, _++_, append-assoc, append-nil}
+use Prim.Native.Nat.{ℕ, suc, _+_, _≤_, _<_, _^_}
+use mathlib.Core.Path.{_≡_, refl, ap, sym, _∙_}
+use mathlib.Core.List.{List, [], _∷_, _++_, append-assoc}
 use native.Mathlib.Omega.{arith}
 use lib.ListN.{length, getD, take, drop, length-append, length-drop, take-append-drop, drop-of-length-le}
 use lib.Seq.{take-add, drop-drop, take-at, drop-at, drop-cons, take-all}
 use Rattle.trace.specs.Bytes.{AreBytes, number, bodySize, Split, nothing, faulty, whole, split}
-use Rattle.trace.specs.Item.{Item, shape, word, request, event, drain, kindOf, item, recordSize, Records, done, broken, next, cut, records}
-use Rattle.trace.specs.Write.{bytes, bodyOf, recordOf, ShapeBytes, WordBytes, RequestBytes, EventBytes, Fits}
+use Rattle.trace.specs.Item.{Item, shape, word, request, event, drain, kindOf, item, recordSize, Records, next, cut, records}
+use Rattle.trace.specs.Write.{bytes, bodyOf, recordOf, Fits}
 use Rattle.trace.proofs.Tests.{clash}
 use Rattle.trace.proofs.Numbers.{bytes-drop, bytes-take, number-below, length-bytes, bytes-number, number-bytes}
-use Rattle.trace.proofs.Records.{by-kind, kind-item, size-item, records-cut, records-whole, Whole, whole-is, is-whole, body-long}
+use Rattle.trace.proofs.Records.{by-kind, kind-item, records-cut, records-whole, Whole, whole-is, is-whole, body-long}
 
 -- the body of an item has the size that the table says
 pub length-body : (x : Item) → length (bodyOf x) ≡ bodySize (kindOf x)

@@ -11,6 +11,7 @@ use Rattle.trace.specs.Write.{recordOf, Fits}
 use Rattle.trace.specs.declared.acts.Due.{Due}
 use Rattle.trace.specs.declared.acts.Due.the-variants.{End, Event, Drain}
 
+-- an act as an item
 abbrev pub itemOf : Act → Item
 itemOf (Act.event e) = event e
 itemOf (Act.drain rounds) = drain rounds
@@ -19,6 +20,7 @@ itemOf (Act.drain rounds) = drain rounds
 abbrev pub actSize : Act → ℕ
 actSize a = recordSize (itemOf a)
 
+-- and how many all of them have
 unfoldable pub actsSize : List Act → ℕ
 actsSize [] = 0
 actsSize (a ∷ rest) = actSize a + actsSize rest
@@ -27,9 +29,11 @@ actsSize (a ∷ rest) = actSize a + actsSize rest
 abbrev pub actOffset : Items → ℕ → ℕ
 actOffset xs n = stepsAt xs + actsSize (take n (actsOf xs))
 
+-- its fields fit their bytes
 abbrev pub ActFits : Act → Type 0
 ActFits a = Fits (itemOf a)
 
+-- the records of acts, one after another
 unfoldable pub actsWritten : List Act → List ℕ
 actsWritten [] = []
 actsWritten (a ∷ rest) = recordOf (itemOf a) ++ actsWritten rest
@@ -46,11 +50,11 @@ due [] = End
 due (Act.event e ∷ rest) = Event (e .what) (e .level) (e .position)
 due (Act.drain rounds ∷ rest) = Drain rounds
 
--- there are such acts
+-- there are such acts: what `act_at` asks
 pub record ActsLeft (s : List ℕ) (at : ℕ) : Type 0 where
   pub left : List Act
   pub are-left : Left s at left
 
--- and what was read is the next of them
+-- what was read is the next of them: what `act_at` promises
 pub record ActRead (s : List ℕ) (at : ℕ) (r : Due) : Type 0 where
   pub is : (left : List Act) → Left s at left → r ≡ due left

@@ -41,16 +41,18 @@ pub record RecordFits (n at kind size : ℕ) : Type 0 where
   pub right : size ≡ bodySize kind
   pub some : 0 < size
 
+-- of a head that announces one
 abbrev pub HeadFits : ℕ → ℕ → Head → Type 0
 HeadFits n at End = Unit {0}
 HeadFits n at (Bad f) = Unit {0}
 HeadFits n at (Record kind size) = RecordFits n at kind size
 
--- what a trace is told: a number and an offset, or that it is accepted, with k, Q, W, R and the offset of the first act
+-- what a trace is told: a number and an offset, or that it is accepted, and what it says of itself
 pub data Told : Type 0 where
   refusal : ℕ → ℕ → Told
   acceptance : Facts → Told
 
+-- k, Q, W, R and the offset of the first act
 abbrev pub factsOf : Items → Facts
 factsOf xs = record { k = shapeOf xs .k; q = shapeOf xs .q; w = shapeOf xs .w; requests = length (requestsOf xs); steps = stepsAt xs }
 
@@ -59,6 +61,7 @@ abbrev pub told : Verdict → Told
 told (refused n before) = refusal n (size before)
 told (accepted xs) = acceptance (factsOf xs)
 
+-- this paper's number and values of the code's answer
 abbrev pub says : Answer → Told
 says (Refused f at) = refusal (numberOf f) at
 says (Accepted facts) = acceptance facts

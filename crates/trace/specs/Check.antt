@@ -23,6 +23,7 @@ unfoldable pub ended : Items → Verdict
 ended none = refused 4 none
 ended (after before x) = accepted (after before x)
 
+-- a faulty record decides; else the rest does
 unfoldable pub decide : ℕ → Items → Verdict → Verdict
 decide zero before rest = rest
 decide (suc n) before rest = refused (suc n) before

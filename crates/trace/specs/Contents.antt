@@ -15,6 +15,7 @@ pub record Contents : Type 0 where
   pub requests : List Request
   pub acts : List Act
 
+-- an item adds to one of them
 unfoldable pub add : Contents → Item → Contents
 add c (shape s) = record { shape = s; words = c .words; requests = c .requests; acts = c .acts }
 add c (word w) = record { shape = c .shape; words = c .words ++ (w ∷ []); requests = c .requests; acts = c .acts }
@@ -22,10 +23,12 @@ add c (request r) = record { shape = c .shape; words = c .words; requests = c .r
 add c (event e) = record { shape = c .shape; words = c .words; requests = c .requests; acts = c .acts ++ (Act.event e ∷ []) }
 add c (drain rounds) = record { shape = c .shape; words = c .words; requests = c .requests; acts = c .acts ++ (Act.drain rounds ∷ []) }
 
+-- what the items up to the last say
 unfoldable pub contents : Items → Contents
 contents none = record { shape = record { k = 0; q = 0; w = 0 }; words = []; requests = []; acts = [] }
 contents (after before x) = add (contents before) x
 
+-- "one shape; words; requests; events and drains mixed", each by itself
 abbrev pub shapeOf : Items → Shape
 shapeOf xs = contents xs .shape
 
@@ -38,11 +41,12 @@ requestsOf xs = contents xs .requests
 abbrev pub actsOf : Items → List Act
 actsOf xs = contents xs .acts
 
--- one of the words has address a
+-- "a word address given": one of the words has address a
 unfoldable pub given : List Word → ℕ → Bool
 given [] a = false
 given (w ∷ ws) a = choose (eqb (w .address) a) true (given ws a)
 
+-- a memory after word records: "address, value"
 unfoldable pub putWords : List ℕ → List Word → List ℕ
 putWords memory [] = memory
 putWords memory (w ∷ ws) = putWords (set memory (w .address) (w .value)) ws
@@ -51,9 +55,11 @@ putWords memory (w ∷ ws) = putWords (set memory (w .address) (w .value)) ws
 unfoldable pub startWords : List Word → List ℕ
 startWords ws = putWords (replicate 256 0) ws
 
+-- "engine, operation, address, first operand, second operand"
 unfoldable pub row : Request → List ℕ
 row r = r .engine ∷ r .operation ∷ r .address ∷ r .first ∷ r .second ∷ []
 
+-- row after row
 unfoldable pub rows : List Request → List ℕ
 rows [] = []
 rows (r ∷ rs) = row r ++ rows rs
@@ -66,6 +72,7 @@ requestTable rs = rows rs ++ replicate (1280 - 5 * length rs) 0
 unfoldable pub sectionOf : ℕ → ℕ
 sectionOf kind = choose (eqb kind 1) 1 (choose (eqb kind 2) 2 (choose (eqb kind 3) 3 4))
 
+-- and of an item
 abbrev pub section : Item → ℕ
 section x = sectionOf (kindOf x)
 

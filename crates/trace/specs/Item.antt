@@ -84,6 +84,7 @@ pub data Records : Type 0 where
   broken : ℕ → Records
   next : Item → Records → Records
 
+-- what stands first, and the rest behind it: 4 bytes of header, then the body
 unfoldable pub cut : Split → (List ℕ → Records) → List ℕ → Records
 cut nothing rest bytes = done
 cut (faulty n) rest bytes = broken n
@@ -94,5 +95,6 @@ unfoldable pub recordsUpTo : ℕ → List ℕ → Records
 recordsUpTo zero bytes = done
 recordsUpTo (suc most) bytes = cut (split bytes) (recordsUpTo most) bytes
 
+-- a trace cut into its records
 unfoldable pub records : List ℕ → Records
 records bytes = recordsUpTo (length bytes) bytes

@@ -21,13 +21,6 @@ use Rattle.trace.specs.declared.progress.Progress.{Progress}
 use Rattle.trace.specs.declared.turn.Turn.{Turn}
 use Rattle.trace.specs.declared.turn.Turn.the-variants.{Stop, Fail, Go}
 
--- the levels of a step, by what it is
-abbrev pub firstLevel : ℕ → ℕ → ℕ
-firstLevel k what = choose (eqb what 1) 1 (choose (eqb what 2) k (choose (eqb what 3) 1 0))
-
-abbrev pub levelEnd : ℕ → ℕ → ℕ
-levelEnd k what = choose (eqb what 1) k (choose (eqb what 2) (k + 1) (choose (eqb what 3) (k + 1) 1))
-
 abbrev pub findingNumber : Finding → ℕ
 findingNumber Sound = 0
 findingNumber (Faulty f) = numberOf f

@@ -18,19 +18,23 @@ pub record ShapeIn (s : Shape) : Type 0 where
   pub q-most : s .q ≤ 4
   pub w-most : s .w ≤ 8
 
+-- "engine not below N, operation above 3, or an operand that must be zero is not" does not hold
 pub record RequestIn (k : ℕ) (r : Request) : Type 0 where
   pub fits : RequestBytes r
   pub engine-below : r .engine < 2 ^ k
   pub operands : operandsFit (r .operation) (r .first) (r .second) ≡ true
 
+-- "an event names no step above" does not hold
 pub record EventIn (k : ℕ) (e : Event) : Type 0 where
   pub fits : EventBytes e
   pub names : namesStep k e ≡ true
 
+-- an event or a drain
 abbrev pub ActIn : ℕ → Act → Type 0
 ActIn k (Act.event e) = EventIn k e
 ActIn k (Act.drain rounds) = rounds < 65536
 
+-- all of it; "Requests R 0 to 256"
 pub record Sound (xs : Items) : Type 0 where
   pub shape-in : ShapeIn (shapeOf xs)
   pub words-in : All WordBytes (wordsOf xs)

@@ -1,6 +1,6 @@
 -- The number that an item is refused with, given the items before it: document 01, "What a trace is told".
 use Prim.Native.Nat.{ℕ, zero, suc, _^_}
-use mathlib.Core.Bool.{Bool, true, false, not}
+use mathlib.Core.Bool.{Bool, not}
 use lib.ListN.{length}
 use lib.Dec.{ltb, leb, eqb}
 use Rattle.lists.specs.Choice.{choose, both, within}

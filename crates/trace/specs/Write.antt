@@ -1,5 +1,5 @@
 -- The bytes of an item's record, and of items: document 01, "Trace records".
-use Prim.Native.Nat.{ℕ, zero, suc, _+_, _*_, _/_, _%_, _<_, _^_}
+use Prim.Native.Nat.{ℕ, zero, suc, _/_, _%_, _<_, _^_}
 use mathlib.Core.List.{List, [], _∷_, _++_}
 use Rattle.event.specs.Event.{Event}
 use Rattle.trace.specs.Bytes.{bodySize}
@@ -10,6 +10,7 @@ unfoldable pub bytes : ℕ → ℕ → List ℕ
 bytes zero v = []
 bytes (suc count) v = v % 256 ∷ bytes count (v / 256)
 
+-- the table's column "body", row by row
 unfoldable pub bodyOf : Item → List ℕ
 bodyOf (shape s) = s .k ∷ s .q ∷ s .w ∷ []
 bodyOf (word w) = w .address ∷ bytes 8 (w .value)
@@ -21,11 +22,12 @@ bodyOf (drain rounds) = bytes 2 rounds
 unfoldable pub recordOf : Item → List ℕ
 recordOf x = bytes 2 (bodySize (kindOf x)) ++ (bytes 2 (kindOf x) ++ bodyOf x)
 
+-- record after record
 unfoldable pub traceOf : Items → List ℕ
 traceOf none = []
 traceOf (after before x) = traceOf before ++ recordOf x
 
--- each field fits its bytes
+-- each field fits its bytes: "k, Q, W, one byte each"; "address 1, value 8"; and so on
 pub record ShapeBytes (s : Shape) : Type 0 where
   pub k-low : s .k < 256
   pub q-low : s .q < 256
@@ -54,6 +56,7 @@ Fits (request r) = RequestBytes r
 Fits (event e) = EventBytes e
 Fits (drain rounds) = rounds < 65536
 
+-- and so of all items
 pub data AllFit : Items → Type 0 where
   none-fit : AllFit none
   after-fit : {before : Items} {x : Item} → AllFit before → Fits x → AllFit (after before x)

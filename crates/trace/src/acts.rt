@@ -2,13 +2,19 @@
 ghost use Rattle.trace.specs.Acts.{ActsLeft, ActRead};
 use crate::bytes::number2;
 
-// What stands where the next act is due: the end; an event's what, level and position, in 7 bytes; or a drain's most rounds, in 6.
+// How many bytes a record of each has.
+pub const EVENT_SIZE: usize = 7;
+
+pub const DRAIN_SIZE: usize = 6;
+
+// What stands where the next act is due: the end; an event's what, level and position; or a drain's most rounds.
 pub enum Due {
     End,
     Event(u8, u8, u8),
     Drain(u64),
 }
 
+// The act at an offset of an accepted trace, where only acts are left: its header was checked, so its kind is told by one byte.
 pub fn act_at(s: &[u8], at: usize) -> Due
     requires { ⌜ ActsLeft (now s) at ⌝ }
     ensures { λ r. ⌜ ActRead (now (s .entry)) at r ⌝ }

@@ -1,8 +1,6 @@
 // The records of a trace, and the check of a whole trace: document 01, "Trace records" and "What a trace is told".
 ghost use mathlib.Core.Path.{_≡_};
 ghost use lib.ListN.{replicate};
-ghost use lib.Dec.{eqb};
-ghost use Rattle.lists.specs.Choice.{choose};
 ghost use Rattle.trace.specs.Check.{check as verdict};
 ghost use Rattle.trace.specs.Answers.{numberOf, told, says, Loaded};
 ghost use Rattle.trace.specs.Loop.{reading};
@@ -16,7 +14,7 @@ pub mod record;
 mod rules;
 mod turn;
 
-// What a trace is refused for.
+// What a trace is refused for, in the order of the paper's numbers, from 1.
 pub enum Fault {
     Cut,
     Kind,

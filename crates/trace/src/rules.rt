@@ -4,11 +4,11 @@ ghost use Prim.Native.Nat.{_≤_, _^_};
 ghost use lib.ListN.{length, getD};
 ghost use lib.Dec.{ltb, eqb};
 ghost use Rattle.event.specs.Event.{namesStep, levelFits};
-ghost use Rattle.trace.specs.Bytes.{number, bodySize};
+ghost use Rattle.trace.specs.Bytes.{bodySize};
 ghost use Rattle.trace.specs.Item.{item, shapeIn, requestIn, eventIn};
 ghost use Rattle.trace.specs.Contents.{sectionOf};
 ghost use Rattle.trace.specs.Refusals.{mayFollow, shapeFits, requestFits, unless, orElse};
-ghost use Rattle.trace.specs.Loop.{firstLevel, levelEnd, findingNumber, OwnFault, RecordFault};
+ghost use Rattle.trace.specs.Loop.{findingNumber, OwnFault, RecordFault};
 use crate::Fault;
 use crate::bytes::number8;
 use crate::progress::Progress;
@@ -73,32 +73,7 @@ fn engines(k: u8) -> u8
     }
 }
 
-// The first level at which a step may stand, by what it is: issue, forward, module, return, collect.
-fn first_level(k: u8, what: u8) -> u8
-    ensures { λ r. ⌜ r ≡ firstLevel k what ⌝ }
-{
-    match what {
-        1 => 1,
-        2 => k,
-        3 => 1,
-        _ => 0,
-    }
-}
-
-// The level past the last one.
-fn level_end(k: u8, what: u8) -> u8
-    requires { ⌜ k ≤ 4 ⌝ }
-    ensures { λ r. ⌜ r ≡ levelEnd k what ⌝ }
-{
-    match what {
-        1 => k,
-        2 => k + 1,
-        3 => k + 1,
-        _ => 1,
-    }
-}
-
-// What an event is picks the range of its levels, and the range decides.
+// What an event is picks its step, and the range of the step's levels decides: issue, forward, module, return, collect.
 fn level_fits(k: u8, what: u8, level: u8) -> bool
     requires { ⌜ k ≤ 4 ⌝ }
     ensures { λ r. ⌜ r ≡ levelFits k what level ⌝ }
@@ -106,10 +81,13 @@ fn level_fits(k: u8, what: u8, level: u8) -> bool
     if what > 4 {
         return false;
     }
-    if level < first_level(k, what) {
+    let first = [0, 1, k, 1, 0];
+    let end = [1, k, k + 1, k + 1, 1];
+    let step = what as usize;
+    if level < first[step] {
         return false;
     }
-    level < level_end(k, what)
+    level < end[step]
 }
 
 pub fn names_step(k: u8, what: u8, level: u8, position: u8) -> bool

@@ -1,9 +1,10 @@
 // One turn of the check: a record, or a run of acts.
-ghost use mathlib.Core.Path.{_≡_};
 ghost use Prim.Native.Nat.{_≤_};
 ghost use lib.ListN.{length};
 ghost use Rattle.trace.specs.Loop.{Inside, TurnRight, Passed, Onward};
 use crate::Fault;
+use crate::acts::DRAIN_SIZE;
+use crate::acts::EVENT_SIZE;
 use crate::bytes::number4;
 use crate::progress::Progress;
 use crate::progress::noted;
@@ -47,7 +48,12 @@ pub fn one_turn(
     }
 }
 
-// The end of the events and drains that are not refused, from an offset on. A header is told by one number: 3 + 65536 * 4 an event's, 2 + 65536 * 5 a drain's.
+// An event's header and a drain's, length and kind, each as the one number that its four bytes spell.
+const EVENT_HEADER: u64 = 3 + 65536 * 4;
+
+const DRAIN_HEADER: u64 = 2 + 65536 * 5;
+
+// The end of the events and drains that are not refused, from an offset on.
 fn acts_end(s: &[u8], at: usize, k: u8) -> usize
     requires { ⌜ (at ≤ length (now s)) × (length (now s) ≤ 65536) × (k ≤ 4) ⌝ }
     ensures { λ r. ⌜ Passed (now (s .entry)) k at r ⌝ }
@@ -55,21 +61,21 @@ fn acts_end(s: &[u8], at: usize, k: u8) -> usize
     let mut i = at;
     loop {
         let left = s.len() - i;
-        if left < 6 {
+        if left < DRAIN_SIZE {
             return i;
         }
         let head = number4(s, i);
-        if head == 327682 {
-            i += 6;
+        if head == DRAIN_HEADER {
+            i += DRAIN_SIZE;
         } else {
-            if head != 262147 {
+            if head != EVENT_HEADER {
                 return i;
             }
-            if left < 7 {
+            if left < EVENT_SIZE {
                 return i;
             }
             if names_step(k, s[i + 4], s[i + 5], s[i + 6]) {
-                i += 7;
+                i += EVENT_SIZE;
             } else {
                 return i;
             }

@@ -1,15 +1,10 @@
 use borrow.Author.Tests.{eq-eqb, ne-eqb}
-use borrow.Author.Needs.{needs}
 use Rattle.trace.proofs.ended.Statement.{statement}
 use Rattle.trace.proofs.ended.Tie as tie
-use Rattle.trace.proofs.ended.Reads as reads
-use Rattle.trace.proofs.ended.Lts as lts
 
--- src/lib.rt:106:9
 returns : tie.Need-returns
 returns c = simp (eq-eqb _ _ (c .if1 .taken))
 
--- src/lib.rt:102:1
 returns-2 : tie.Need-returns-2
 returns-2 c = simp (ne-eqb _ _ (c .if1 .left))
 

@@ -1,17 +1,11 @@
-use Rattle.trace.proofs.Loop.{inside-start, loaded-long, loaded-fail, loaded-stop}
-use Rattle.trace.specs.Loop.{Inside}
-use lib.ListN.{length}
 use Prim.Native.Nat.{_-_}
 use native.Mathlib.Omega.{arith}
+use lib.ListN.{length}
 use borrow.Author.Needs.{needs}
+use Rattle.trace.specs.Loop.{Inside}
+use Rattle.trace.proofs.Verdicts.{inside-start, loaded-long, loaded-fail, loaded-stop}
 use Rattle.trace.proofs.load.Statement.{statement}
 use Rattle.trace.proofs.load.Tie as tie
-use Rattle.trace.proofs.load.Reads as reads
-use Rattle.trace.proofs.load.Lts as lts
-use Rattle.trace.proofs.ended.Reads as ended-reads
-use Rattle.trace.proofs.progress.Progress.start.Reads as start-reads
-use Rattle.trace.proofs.turn.one_turn.Reads as one-turn-reads
-use Rattle.trace.proofs.turn.past_acts.Reads as past-acts-reads
 
 abbrev Inv-loop : tie.InvT-loop
 Inv-loop s given₀ words₀ table₀ p₀ given words table p = Inside s p given words table
@@ -19,56 +13,43 @@ Inv-loop s given₀ words₀ table₀ p₀ given words table p = Inside s p give
 abbrev μ-loop : tie.MeasureT-loop
 μ-loop s given₀ words₀ table₀ p₀ given words table p = length s - p .at
 
--- src/lib.rt:81:9
 returns : tie.Need-returns Inv-loop μ-loop
 returns c = let d = c .before .before in rw (d .pre .0, d .pre .1, d .pre .2) (loaded-long _ (c .if1 .taken))
 
--- src/lib.rt:84:9
 start-requires : tie.Need-start-requires Inv-loop μ-loop
 start-requires c κs = search needs
 
--- src/lib.rt:85:5
 loop-holds : tie.Need-loop-holds Inv-loop μ-loop
 loop-holds c = let d = c .before .before .before in rw (c .start .ensures, d .pre .0, d .pre .1, d .pre .2) (inside-start _ (c .before .if1 .left))
 
--- src/lib.rt:86:13
 one-turn-requires : tie.Need-one-turn-requires Inv-loop μ-loop
 one-turn-requires c κs = c .before .before .before .loop .inv
 
--- src/lib.rt:89:17
 enum-told : tie.Need-enum-told Inv-loop μ-loop
 enum-told c = search needs
 
--- src/lib.rt:89:17
 ended-requires : tie.Need-ended-requires Inv-loop μ-loop
 ended-requires c κs = search needs
 
--- src/lib.rt:89:17
 returns-2 : tie.Need-returns-2 Inv-loop μ-loop
 returns-2 c = rw (c .ended .ensures) (loaded-stop (rw (c .before .enum-told .given .1) at (c .before .before .before .one-turn .ensures)))
 
--- src/lib.rt:91:24
 enum-known-t : tie.Need-enum-known-t Inv-loop μ-loop
 enum-known-t c = search needs
 
--- src/lib.rt:92:17
 returns-3 : tie.Need-returns-3 Inv-loop μ-loop
 returns-3 c = loaded-fail (c .before .t .given .0 .0) (rw (c .before .t .given .1) at (c .before .before .before .one-turn .ensures))
 
--- src/lib.rt:94:22
 enum-known-t-2 : tie.Need-enum-known-t-2 Inv-loop μ-loop
 enum-known-t-2 c = search needs
 
--- src/lib.rt:95:17
 past-acts-requires : tie.Need-past-acts-requires Inv-loop μ-loop
 past-acts-requires c κs = let i = rw (c .before .t2 .given .1) at (c .before .before .before .one-turn .ensures) .1 in (i .at-inside, i .short, i .so-far .known .k-low)
 
--- src/lib.rt:85:5
 loop-less : tie.Need-loop-less Inv-loop μ-loop
 loop-less c = let r = rw (c .before .before .t2 .given .1) at (c .before .before .before .before .one-turn .ensures) in let o = c .past-acts .ensures in
     omega (arith, r .0, o .onward, o .inside _ _ _ (r .1) .at-inside)
 
--- src/lib.rt:85:5
 loop-again : tie.Need-loop-again Inv-loop μ-loop
 loop-again c = let r = rw (c .before .before .t2 .given .1) at (c .before .before .before .before .one-turn .ensures) in c .past-acts .ensures .inside _ _ _ (r .1)
 

@@ -1,63 +1,47 @@
-use Rattle.trace.specs.declared.acts.Due.the-variants.{Drain}
-use Rattle.trace.proofs.ActsLeft.{act-room, event-room, read-end, read-event, read-drain}
 use mathlib.Core.Path.{_∙_, ap}
 use native.Mathlib.Omega.{arith}
 use borrow.Author.Needs.{needs}
+use Rattle.trace.specs.declared.acts.Due.the-variants.{Drain}
+use Rattle.trace.proofs.ActsLeft.{act-room, event-room, read-end, read-event, read-drain}
 use Rattle.trace.proofs.acts.act_at.Statement.{statement}
 use Rattle.trace.proofs.acts.act_at.Tie as tie
-use Rattle.trace.proofs.acts.act_at.Reads as reads
-use Rattle.trace.proofs.acts.act_at.Lts as lts
-use Rattle.trace.proofs.bytes.number2.Reads as number2-reads
 
--- src/acts.rt:17:9
 returns : tie.Need-returns
 returns c = record { is = λ left l. read-end _ _ left l (c .if1 .taken) }
 
--- src/acts.rt:19:10
 add-if2 : tie.Need-add-if2
 add-if2 c = search needs
 
--- src/acts.rt:19:8
 shared-slice-read-if2 : tie.Need-shared-slice-read-if2
 shared-slice-read-if2 c = omega (arith, act-room _ _ _ (c .before .before .before .pre .are-left) (c .before .if1 .left))
 
--- src/acts.rt:20:29
 add-t7 : tie.Need-add-t7
 add-t7 c = search needs
 
--- src/acts.rt:20:27
 shared-slice-read-t9 : tie.Need-shared-slice-read-t9
 shared-slice-read-t9 c = omega (arith, act-room _ _ _ (c .before .before .before .before .before .pre .are-left) (c .before .before .before .if1 .left))
 
--- src/acts.rt:20:40
 add-t10 : tie.Need-add-t10
 add-t10 c = search needs
 
--- src/acts.rt:20:38
 shared-slice-read-t12 : tie.Need-shared-slice-read-t12
 shared-slice-read-t12 c = omega (arith, act-room _ _ _ (c .before .before .before .before .before .before .pre .are-left) (c .before .before .before .before .if1 .left))
 
--- src/acts.rt:20:51
 add-t13 : tie.Need-add-t13
 add-t13 c = search needs
 
--- src/acts.rt:20:49
 shared-slice-read-t15 : tie.Need-shared-slice-read-t15
 shared-slice-read-t15 c = omega (arith, event-room _ _ _ (c .before .before .before .before .before .before .before .pre .are-left) (c .before .before .before .before .before .if1 .left) (c .before .before .before .if2 .taken))
 
--- src/acts.rt:20:9
 returns-2 : tie.Need-returns-2
 returns-2 c = record { is = λ left l. read-event _ _ left l (c .before .before .before .before .before .if1 .left) (c .before .before .before .if2 .taken) }
 
--- src/acts.rt:22:27
 add-number2 : tie.Need-add-number2
 add-number2 c = search needs
 
--- src/acts.rt:22:16
 number2-requires : tie.Need-number2-requires
 number2-requires c κs = omega (arith, act-room _ _ _ (c .before .before .before .before .pre .are-left) (c .before .before .if1 .left))
 
--- src/acts.rt:12:1
 returns-3 : tie.Need-returns-3
 returns-3 c = record { is = λ left l. ap Drain (c .number2 .ensures .0) ∙ read-drain _ _ left l (c .before .before .before .if1 .left) (c .before .if2 .left) }
 

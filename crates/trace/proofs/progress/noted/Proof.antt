@@ -1,77 +1,59 @@
-use Rattle.trace.proofs.Loop.{keeps-shape, keeps-word, keeps-request, keeps-act}
+use mathlib.Core.Path.{_∙_, ap}
+use native.Mathlib.Omega.{arith}
+use denote.Ref.{now}
+use borrow.Author.Tests.{ne-eqb}
+use borrow.Author.Needs.{needs}
+use Rattle.event.specs.Event.{Act}
 use Rattle.trace.specs.Item.{item, kindOf, recordSize, shapeIn, wordIn, requestIn, eventIn}
 use Rattle.trace.specs.Bytes.{bodySize, number}
-use Rattle.event.specs.Event.{Act}
-use denote.Ref.{now}
-use mathlib.Core.Path.{_∙_, ap}
-use borrow.Author.Tests.{ne-eqb}
-use native.Mathlib.Omega.{arith}
-use borrow.Author.Needs.{needs}
+use Rattle.trace.proofs.Known.{keeps-shape, keeps-word, keeps-request, keeps-act}
 use Rattle.trace.proofs.progress.noted.Statement.{statement}
 use Rattle.trace.proofs.progress.noted.Tie as tie
-use Rattle.trace.proofs.progress.noted.Reads as reads
-use Rattle.trace.proofs.progress.noted.Lts as lts
-use Rattle.trace.proofs.progress.Progress.past.Reads as past-reads
-use Rattle.trace.proofs.progress.Progress.past_shape.Reads as past-shape-reads
-use Rattle.trace.proofs.progress.put_request.Reads as put-request-reads
-use Rattle.trace.proofs.progress.put_word.Reads as put-word-reads
 
--- src/progress.rt:103:14
 past-shape-requires : tie.Need-past-shape-requires
 unfolding bodySize
 past-shape-requires c κs = let k = c .before .before .pre in (k .body-size ∙ ap bodySize (c .match .keys1), k .at-low, omega (arith, k .room .steps-low, k .at-low))
 
--- src/progress.rt:105:13
 put-word-requires : tie.Need-put-word-requires
 unfolding bodySize
 put-word-requires c κs = let k = c .before .before .before .before .pre in (k .body-size ∙ ap bodySize (c .before .before .match .keys2), k .room .marks-size, k .room .words-size)
 
--- src/progress.rt:106:13
 past-requires : tie.Need-past-requires
 past-requires c κs = search needs
 
--- src/progress.rt:109:13
 put-request-requires : tie.Need-put-request-requires
 unfolding bodySize
 put-request-requires c κs = let k = c .before .before .before .pre in (k .body-size ∙ ap bodySize (c .before .match .keys3), k .few (c .before .match .keys3), k .room .table-size)
 
--- src/progress.rt:110:13
 past-requires-2 : tie.Need-past-requires-2
 past-requires-2 c κs = search needs
 
--- src/progress.rt:112:14
 past-requires-3 : tie.Need-past-requires-3
 past-requires-3 c κs = search needs
 
--- src/progress.rt:113:14
 past-requires-4 : tie.Need-past-requires-4
 past-requires-4 c κs = search needs
 
--- src/progress.rt:91:1
 returns : tie.Need-returns
 unfolding item
 returns c = let d = c .before .before .before in rw (c .before .match .keys1, c .past-shape .ensures) (keeps-shape (d .pre .room) (shapeIn (now (d .args .b))))
 
--- src/progress.rt:91:1
 returns-2 : tie.Need-returns-2
 unfolding item
 returns-2 c = let d = c .before .before .before .before .before .before in
     rw (c .before .before .before .before .match .keys2, c .past .ensures, c .before .put-word .ensures .0, c .before .put-word .ensures .1)
     (keeps-word (d .pre .room) (wordIn (now (d .args .b))) (omega (arith, c .before .before .before .before .before .shared-slice-known .given 0)))
 
--- src/progress.rt:91:1
 returns-3 : tie.Need-returns-3
 unfolding item
 returns-3 c = let d = c .before .before .before .before .before in let three = c .before .before .before .match .keys3 in
     rw (three, c .past2 .ensures, c .before .put-request .ensures) (keeps-request (d .pre .room) (requestIn (now (d .args .b))) (d .pre .few three))
 
--- src/progress.rt:91:1
 returns-4 : tie.Need-returns-4
 unfolding item kindOf recordSize bodySize
 returns-4 c = let d = c .before .before .before in
     rw (c .before .match .keys4, c .past3 .ensures) (keeps-act (d .pre .room) (Act.event (eventIn (now (d .args .b)))))
 
--- src/progress.rt:91:1
 returns-5 : tie.Need-returns-5
 unfolding item kindOf recordSize bodySize
 returns-5 c = let d = c .before .before .before in let r = c .before .match .rest in

@@ -1,59 +1,44 @@
-use borrow.Author.Tests.{lt-ltb, le-ltb, eq-eqb, ne-eqb}
-use Rattle.trace.proofs.Records.{split-at}
 use mathlib.Core.Path.{_∙_}
 use native.Mathlib.Omega.{arith}
+use borrow.Author.Tests.{lt-ltb, le-ltb, eq-eqb, ne-eqb}
 use borrow.Author.Needs.{needs}
+use Rattle.trace.proofs.Records.{split-at}
 use Rattle.trace.proofs.record.head_at.Statement.{statement}
 use Rattle.trace.proofs.record.head_at.Tie as tie
-use Rattle.trace.proofs.record.head_at.Reads as reads
-use Rattle.trace.proofs.record.head_at.Lts as lts
-use Rattle.trace.proofs.bytes.number2.Reads as number2-reads
-use Rattle.trace.proofs.record.body_size.Reads as body-size-reads
 
--- src/record.rt:36:16
 sub-left : tie.Need-sub-left
 sub-left c = search needs
 
--- src/record.rt:38:9
 returns : tie.Need-returns
 returns c = (simp (split-at, eq-eqb _ _ (c .if1 .taken)), tt)
 
--- src/record.rt:41:9
 returns-2 : tie.Need-returns-2
 returns-2 c = (simp (split-at, ne-eqb _ _ (c .before .if1 .left), lt-ltb _ _ (c .if2 .taken)), tt)
 
--- src/record.rt:43:9
 number2-requires : tie.Need-number2-requires
 number2-requires c κs = search needs
 
--- src/record.rt:44:27
 add-number2 : tie.Need-add-number2
 add-number2 c = search needs
 
--- src/record.rt:44:9
 number2-requires-2 : tie.Need-number2-requires-2
 number2-requires-2 c κs = search needs
 
--- src/record.rt:45:9
 body-size-requires : tie.Need-body-size-requires
 body-size-requires c κs = search needs
 
--- src/record.rt:47:9
 returns-3 : tie.Need-returns-3
 returns-3 c = let d = c .before in
     (simp (split-at, ne-eqb _ _ (d .before .before .before .before .if1 .left), le-ltb _ _ (d .before .before .before .if2 .left), ← (d .before .number22 .ensures .0), ← (d .body-size .ensures), eq-eqb _ _ (c .if3 .taken)), tt)
 
--- src/record.rt:50:9
 returns-4 : tie.Need-returns-4
 returns-4 c = let d = c .before .before in
     (simp (split-at, ne-eqb _ _ (d .before .before .before .before .if1 .left), le-ltb _ _ (d .before .before .before .if2 .left), ← (d .before .number22 .ensures .0), ← (d .before .before .number2 .ensures .0), ← (d .body-size .ensures), ne-eqb _ _ (c .before .if3 .left), ne-eqb _ _ (c .if4 .taken)), tt)
 
--- src/record.rt:54:9
 returns-5 : tie.Need-returns-5
 returns-5 c = let d = c .before .before .before in
     (simp (split-at, ne-eqb _ _ (d .before .before .before .before .if1 .left), le-ltb _ _ (d .before .before .before .if2 .left), ← (d .before .number22 .ensures .0), ← (d .before .before .number2 .ensures .0), ← (d .body-size .ensures), ne-eqb _ _ (c .before .before .if3 .left), eq-eqb _ _ (c .before .if4 .left), lt-ltb _ _ (c .if5 .taken)), tt)
 
--- src/record.rt:31:1
 returns-6 : tie.Need-returns-6
 returns-6 c = let d = c .before .before .before in (
   simp (split-at, ne-eqb _ _ (d .before .before .before .before .if1 .left), le-ltb _ _ (d .before .before .before .if2 .left), ← (d .before .number22 .ensures .0), ← (d .before .before .number2 .ensures .0), ← (d .body-size .ensures), ne-eqb _ _ (c .before .before .if3 .left), eq-eqb _ _ (c .before .if4 .left), le-ltb _ _ (c .if5 .left)),

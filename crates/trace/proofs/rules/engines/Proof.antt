@@ -1,27 +1,19 @@
 use Rattle.trace.proofs.Levels.{four-left}
-use borrow.Author.Needs.{needs}
 use Rattle.trace.proofs.rules.engines.Statement.{statement}
 use Rattle.trace.proofs.rules.engines.Tie as tie
-use Rattle.trace.proofs.rules.engines.Reads as reads
-use Rattle.trace.proofs.rules.engines.Lts as lts
 
--- src/rules.rt:64:1
 returns : tie.Need-returns
 returns c = rw (c .match .keys1)
 
--- src/rules.rt:64:1
 returns-2 : tie.Need-returns-2
 returns-2 c = rw (c .match .keys2)
 
--- src/rules.rt:64:1
 returns-3 : tie.Need-returns-3
 returns-3 c = rw (c .match .keys3)
 
--- src/rules.rt:64:1
 returns-4 : tie.Need-returns-4
 returns-4 c = rw (c .match .keys4)
 
--- src/rules.rt:64:1
 returns-5 : tie.Need-returns-5
 returns-5 c = let n = c .match .rest in rw (four-left _ (c .before .pre) (n .0 .0 .0 .1) (n .0 .0 .1) (n .0 .1) (n .1))
 

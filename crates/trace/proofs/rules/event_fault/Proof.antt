@@ -1,31 +1,22 @@
 use borrow.Author.Needs.{needs}
 use Rattle.trace.proofs.rules.event_fault.Statement.{statement}
 use Rattle.trace.proofs.rules.event_fault.Tie as tie
-use Rattle.trace.proofs.rules.event_fault.Reads as reads
-use Rattle.trace.proofs.rules.event_fault.Lts as lts
-use Rattle.trace.proofs.rules.names_step.Reads as names-step-reads
 
--- src/rules.rt:168:22
 shared-slice-read-names-step : tie.Need-shared-slice-read-names-step
 shared-slice-read-names-step c = search needs
 
--- src/rules.rt:168:28
 shared-slice-read-names-step-2 : tie.Need-shared-slice-read-names-step-2
 shared-slice-read-names-step-2 c = search needs
 
--- src/rules.rt:168:34
 shared-slice-read-names-step-3 : tie.Need-shared-slice-read-names-step-3
 shared-slice-read-names-step-3 c = search needs
 
--- src/rules.rt:168:8
 names-step-requires : tie.Need-names-step-requires
 names-step-requires c κs = search needs
 
--- src/rules.rt:169:9
 returns : tie.Need-returns
 returns c = simp (← (c .before .names-step .ensures), c .if1 .taken)
 
--- src/rules.rt:164:1
 returns-2 : tie.Need-returns-2
 returns-2 c = simp (← (c .before .names-step .ensures), c .if1 .left)
 

@@ -1,22 +1,16 @@
-use Rattle.trace.specs.Refusals.{mayFollow}
 use borrow.Author.Tests.{lt-ltb, le-ltb, eq-eqb, ne-eqb}
-use borrow.Author.Needs.{needs}
+use Rattle.trace.specs.Refusals.{mayFollow}
 use Rattle.trace.proofs.rules.may_follow.Statement.{statement}
 use Rattle.trace.proofs.rules.may_follow.Tie as tie
-use Rattle.trace.proofs.rules.may_follow.Reads as reads
-use Rattle.trace.proofs.rules.may_follow.Lts as lts
 
--- src/rules.rt:37:9
 returns : tie.Need-returns
 unfolding mayFollow
 returns c = simp (eq-eqb _ _ (c .if1 .taken))
 
--- src/rules.rt:40:9
 returns-2 : tie.Need-returns-2
 unfolding mayFollow
 returns-2 c = simp (ne-eqb _ _ (c .before .if1 .left), le-ltb _ _ (c .if2 .taken))
 
--- src/rules.rt:33:1
 returns-3 : tie.Need-returns-3
 unfolding mayFollow
 returns-3 c = simp (ne-eqb _ _ (c .before .if1 .left), lt-ltb _ _ (c .if2 .left))

@@ -1,32 +1,22 @@
+use borrow.Author.Needs.{needs}
 use Rattle.trace.specs.Refusals.{fault, orElse}
 use Rattle.trace.proofs.Records.{section-item}
-use borrow.Author.Needs.{needs}
 use Rattle.trace.proofs.rules.record_fault.Statement.{statement}
 use Rattle.trace.proofs.rules.record_fault.Tie as tie
-use Rattle.trace.proofs.rules.record_fault.Reads as reads
-use Rattle.trace.proofs.rules.record_fault.Lts as lts
-use Rattle.trace.proofs.rules.may_follow.Reads as may-follow-reads
-use Rattle.trace.proofs.rules.own_fault.Reads as own-fault-reads
-use Rattle.trace.proofs.rules.section_of.Reads as section-of-reads
 
--- src/rules.rt:177:30
 section-of-requires : tie.Need-section-of-requires
 section-of-requires c κs = search needs
 
--- src/rules.rt:177:8
 may-follow-requires : tie.Need-may-follow-requires
 may-follow-requires c κs = search needs
 
--- src/rules.rt:178:9
 own-fault-requires : tie.Need-own-fault-requires
 own-fault-requires c κs = search needs
 
--- src/rules.rt:178:9
 returns : tie.Need-returns
 unfolding fault orElse
 returns c = record { is = λ before known. simp (section-item, ← (c .before .before .before .section-of .ensures), ← (known .section-is), ← (c .before .before .may-follow .ensures), c .before .if1 .taken) (c .own-fault .ensures .is before known) }
 
--- src/rules.rt:173:1
 returns-2 : tie.Need-returns-2
 unfolding fault orElse
 returns-2 c = record { is = λ before known. simp (section-item, ← (c .before .before .section-of .ensures), ← (known .section-is), ← (c .before .may-follow .ensures), c .if1 .left) }

@@ -1,54 +1,40 @@
-use Rattle.trace.specs.Refusals.{requestFits, orElse}
 use borrow.Author.Tests.{lt-ltb, le-ltb}
 use borrow.Author.Needs.{needs}
+use Rattle.trace.specs.Refusals.{requestFits, orElse}
 use Rattle.trace.proofs.rules.request_fault.Statement.{statement}
 use Rattle.trace.proofs.rules.request_fault.Tie as tie
-use Rattle.trace.proofs.rules.request_fault.Reads as reads
-use Rattle.trace.proofs.rules.request_fault.Lts as lts
-use Rattle.trace.proofs.bytes.number8.Reads as number8-reads
-use Rattle.trace.proofs.rules.engines.Reads as engines-reads
 
--- src/rules.rt:131:9
 returns : tie.Need-returns
 unfolding requestFits orElse
 returns c = simp (le-ltb _ _ (c .if1 .taken))
 
--- src/rules.rt:133:8
 shared-slice-read-if2 : tie.Need-shared-slice-read-if2
 shared-slice-read-if2 c = search needs
 
--- src/rules.rt:133:16
 engines-requires : tie.Need-engines-requires
 engines-requires c κs = search needs
 
--- src/rules.rt:134:9
 returns-2 : tie.Need-returns-2
 unfolding requestFits orElse
 returns-2 c = simp (lt-ltb _ _ (c .before .before .before .if1 .left), ← (c .before .engines .ensures), le-ltb _ _ (c .if2 .taken))
 
--- src/rules.rt:136:21
 shared-slice-read-operands-fit : tie.Need-shared-slice-read-operands-fit
 shared-slice-read-operands-fit c = search needs
 
--- src/rules.rt:136:27
 number8-requires : tie.Need-number8-requires
 number8-requires c κs = search needs
 
--- src/rules.rt:136:42
 number8-requires-2 : tie.Need-number8-requires-2
 number8-requires-2 c κs = search needs
 
--- src/rules.rt:136:8
 operands-fit-requires : tie.Need-operands-fit-requires
 operands-fit-requires c κs = search needs
 
--- src/rules.rt:137:9
 returns-3 : tie.Need-returns-3
 unfolding requestFits orElse
 returns-3 c = let d = c .before .before .before .before .before in
     simp (lt-ltb _ _ (d .before .before .before .if1 .left), ← (d .before .engines .ensures), lt-ltb _ _ (d .if2 .left), ← (c .before .before .before .number8 .ensures), ← (c .before .before .number82 .ensures), ← (c .before .operands-fit .ensures), c .if3 .taken)
 
--- src/rules.rt:126:1
 returns-4 : tie.Need-returns-4
 unfolding requestFits orElse
 returns-4 c = let d = c .before .before .before .before .before in

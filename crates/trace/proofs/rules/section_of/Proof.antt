@@ -1,27 +1,20 @@
-use Rattle.trace.specs.Contents.{sectionOf}
 use borrow.Author.Tests.{ne-eqb}
-use borrow.Author.Needs.{needs}
+use Rattle.trace.specs.Contents.{sectionOf}
 use Rattle.trace.proofs.rules.section_of.Statement.{statement}
 use Rattle.trace.proofs.rules.section_of.Tie as tie
-use Rattle.trace.proofs.rules.section_of.Reads as reads
-use Rattle.trace.proofs.rules.section_of.Lts as lts
 
--- src/rules.rt:22:1
 returns : tie.Need-returns
 unfolding sectionOf
 returns c = rw (c .match .keys1)
 
--- src/rules.rt:22:1
 returns-2 : tie.Need-returns-2
 unfolding sectionOf
 returns-2 c = rw (c .match .keys2)
 
--- src/rules.rt:22:1
 returns-3 : tie.Need-returns-3
 unfolding sectionOf
 returns-3 c = rw (c .match .keys3)
 
--- src/rules.rt:22:1
 returns-4 : tie.Need-returns-4
 unfolding sectionOf
 returns-4 c = let r = c .match .rest in simp (ne-eqb _ _ (r .1), ne-eqb _ _ (r .0 .1), ne-eqb _ _ (r .0 .0 .1))

@@ -1,31 +1,22 @@
 use borrow.Author.Needs.{needs}
 use Rattle.trace.proofs.rules.shape_fault.Statement.{statement}
 use Rattle.trace.proofs.rules.shape_fault.Tie as tie
-use Rattle.trace.proofs.rules.shape_fault.Reads as reads
-use Rattle.trace.proofs.rules.shape_fault.Lts as lts
-use Rattle.trace.proofs.rules.shape_fits.Reads as shape-fits-reads
 
--- src/rules.rt:130:19
 shared-slice-read-shape-fits : tie.Need-shared-slice-read-shape-fits
 shared-slice-read-shape-fits c = search needs
 
--- src/rules.rt:130:25
 shared-slice-read-shape-fits-2 : tie.Need-shared-slice-read-shape-fits-2
 shared-slice-read-shape-fits-2 c = search needs
 
--- src/rules.rt:130:31
 shared-slice-read-shape-fits-3 : tie.Need-shared-slice-read-shape-fits-3
 shared-slice-read-shape-fits-3 c = search needs
 
--- src/rules.rt:130:8
 shape-fits-requires : tie.Need-shape-fits-requires
 shape-fits-requires c κs = search needs
 
--- src/rules.rt:131:9
 returns : tie.Need-returns
 returns c = simp (← (c .before .shape-fits .ensures), c .if1 .taken)
 
--- src/rules.rt:126:1
 returns-2 : tie.Need-returns-2
 returns-2 c = simp (← (c .before .shape-fits .ensures), c .if1 .left)
 

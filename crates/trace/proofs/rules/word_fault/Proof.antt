@@ -1,28 +1,21 @@
-use borrow.Author.Tests.{eq-eqb, ne-eqb}
 use native.Mathlib.Omega.{arith}
+use borrow.Author.Tests.{eq-eqb, ne-eqb}
 use borrow.Author.Needs.{needs}
 use Rattle.trace.proofs.rules.word_fault.Statement.{statement}
 use Rattle.trace.proofs.rules.word_fault.Tie as tie
-use Rattle.trace.proofs.rules.word_fault.Reads as reads
-use Rattle.trace.proofs.rules.word_fault.Lts as lts
 
--- src/rules.rt:141:13
 shared-slice-read-a : tie.Need-shared-slice-read-a
 shared-slice-read-a c = search needs
 
--- src/rules.rt:141:13
 cast-a : tie.Need-cast-a
 cast-a c = omega (arith, c .shared-slice-known .given 0)
 
--- src/rules.rt:142:8
 element-copy-out-if1 : tie.Need-element-copy-out-if1
 element-copy-out-if1 c = omega (arith, c .shared-slice-known .given 0)
 
--- src/rules.rt:143:9
 returns : tie.Need-returns
 returns c = simp (eq-eqb _ _ (c .if1 .taken))
 
--- src/rules.rt:137:1
 returns-2 : tie.Need-returns-2
 returns-2 c = simp (ne-eqb _ _ (c .if1 .left))
 

@@ -1,0 +1,142 @@
+-- A run of acts that are not refused: past it the rest of the trace decides, as before.
+use Prim.Native.Nat.{ℕ, _+_, _*_, _≤_, _<_}
+use mathlib.Core.Path.{_≡_, refl, ap, sym, _∙_}
+use mathlib.Core.List.{List}
+use mathlib.Core.Bool.{true}
+use native.Mathlib.Omega.{arith}
+use native.Mathlib.Nat.{add-zero}
+use lib.ListN.{length, getD, take, drop, length-drop}
+use lib.Seq.{drop-drop, getD-take, getD-drop}
+use Rattle.event.specs.Event.{Event, Act, namesStep}
+use Rattle.trace.specs.Bytes.{AreBytes, number, bodySize}
+use Rattle.trace.specs.Item.{Shape, event, drain, kindOf, item, eventIn, recordSize, Items, after, size, next, records}
+use Rattle.trace.specs.Contents.{shapeOf, sectionOf, section, reached}
+use Rattle.trace.specs.Refusals.{fault, orElse, mayFollow, ownFault}
+use Rattle.trace.specs.Check.{decide, judge}
+use Rattle.trace.specs.Acts.{itemOf, actSize}
+use Rattle.trace.specs.Loop.{Same, Passed, Onward}
+use Rattle.trace.specs.declared.progress.Progress.{Progress}
+use Rattle.trace.proofs.Numbers.{number-drop, number-join, number-below}
+use Rattle.trace.proofs.Records.{Whole, is-whole, body-long, records-whole}
+use Rattle.trace.proofs.Known.{act-same, act-section, known-same, holds-same}
+
+-- acts, one by one
+pub passed-start : (s : List ℕ) (k at : ℕ) → at ≤ length s → Passed s k at at
+passed-start s k at h = record {
+  onward = omega arith;
+  inside = h;
+  run = λ before section-is k-is. record {
+    all = before;
+    same = record { shape-is = refl; words-are = refl; requests-are = refl; steps-is = refl };
+    reached-is = section-is;
+    size-is = refl;
+    verdict = refl;
+  };
+}
+
+same-then : {xs ys zs : Items} → Same xs ys → Same ys zs → Same xs zs
+same-then a b = record {
+  shape-is = a .shape-is ∙ b .shape-is;
+  words-are = a .words-are ∙ b .words-are;
+  requests-are = a .requests-are ∙ b .requests-are;
+  steps-is = a .steps-is ∙ b .steps-is;
+}
+
+-- past an act that is not refused
+passed-act : {s : List ℕ} {k at end : ℕ} → Passed s k at end → (a : Act) → end + actSize a ≤ length s →
+    records (drop end s) ≡ next (itemOf a) (records (drop (end + actSize a) s)) →
+    ((before : Items) → reached before ≡ 4 → shapeOf before .k ≡ k → fault before (itemOf a) ≡ 0) → Passed s k at (end + actSize a)
+unfolding size judge decide reached
+passed-act {s} {k} {at} {end} p a inside stands sound = record {
+  onward = omega (arith, p .onward);
+  inside = inside;
+  run = λ before section-is k-is.
+      let r = p .run before section-is k-is in
+      let none-found = sound (r .all) (r .reached-is) (sym (ap (λ (s : Shape). s .k) (r .same .shape-is)) ∙ k-is) in
+      record {
+        all = after (r .all) (itemOf a);
+        same = same-then (r .same) (act-same (r .all) a);
+        reached-is = act-section a;
+        size-is = omega (arith, r .size-is);
+        verdict = r .verdict ∙ rw (stands, none-found);
+      };
+}
+
+-- a record, by the one number that its header spells
+record-stands : {s : List ℕ} → AreBytes s → (i kind : ℕ) → 0 < bodySize kind → bodySize kind < 65536 → number 4 s i ≡ bodySize kind + 65536 * kind →
+    i + 4 + bodySize kind ≤ length s →
+    records (drop i s) ≡ next (item kind (take (bodySize kind) (drop (i + 4) s))) (records (drop (i + (4 + bodySize kind)) s))
+record-stands {s} are i kind some low e inside =
+    let halves = number-join 2 2 s i in
+    let first = number-below are 2 i in
+    let w : Whole (drop i s) kind (take (bodySize kind) (drop (i + 4) s)) = record {
+      kind-is = number-drop 2 s i 2 ∙ omega arith;
+      size-is = number-drop 2 s i 0 ∙ rw add-zero (omega arith);
+      some = some;
+      fits = simp length-drop (omega arith);
+      body-is = rw drop-drop;
+    } in
+    records-whole (drop i s) kind _ (is-whole w) ∙ rw (body-long w, drop-drop)
+
+-- a byte of a part of the trace
+body-byte : (s : List ℕ) (i n j at : ℕ) → j < n → i + j ≡ at → getD (take n (drop i s)) j 0 ≡ getD s at 0
+body-byte s i n j at low e = getD-take n (drop i s) j 0 low ∙ getD-drop i s j 0 ∙ ap (λ (m : ℕ). getD s m 0) e
+
+-- a drain is never refused, and an event that names a step is not, where acts may stand
+drain-sound : (before : Items) (rounds : ℕ) → reached before ≡ 4 → fault before (drain rounds) ≡ 0
+unfolding fault mayFollow orElse sectionOf kindOf ownFault
+drain-sound before rounds h = rw h
+
+event-sound : (before : Items) (e : Event) → reached before ≡ 4 → namesStep (shapeOf before .k) e ≡ true → fault before (event e) ≡ 0
+unfolding fault mayFollow orElse sectionOf kindOf ownFault
+event-sound before e h names = rw (h, names)
+
+module _ {s : List ℕ} {k at end : ℕ} (are : AreBytes s) (p : Passed s k at end) where
+  pub passed-drain : end + 6 ≤ length s → number 4 s end ≡ 327682 → Passed s k at (end + 6)
+  unfolding item bodySize recordSize kindOf
+  passed-drain inside header =
+      passed-act p (Act.drain (number 2 (take 2 (drop (end + 4) s)) 0)) inside
+      (record-stands are end 5 (omega arith) (omega arith) header (omega arith))
+      (λ before section-is k-is. drain-sound before _ section-is)
+
+  pub passed-event : end + 7 ≤ length s → number 4 s end ≡ 262147 →
+      namesStep k (record { what = getD s (end + 4) 0; level = getD s (end + 5) 0; position = getD s (end + 6) 0 }) ≡ true → Passed s k at (end + 7)
+  unfolding item bodySize recordSize kindOf
+  passed-event inside header names =
+      let body = take 3 (drop (end + 4) s) in
+      let what : getD body 0 0 ≡ getD s (end + 4) 0 = body-byte s (end + 4) 3 0 (end + 4) (omega arith) (omega arith) in
+      let level : getD body 1 0 ≡ getD s (end + 5) 0 = body-byte s (end + 4) 3 1 (end + 5) (omega arith) (omega arith) in
+      let position : getD body 2 0 ≡ getD s (end + 6) 0 = body-byte s (end + 4) 3 2 (end + 6) (omega arith) (omega arith) in
+      passed-act p (Act.event (eventIn body)) inside
+      (record-stands are end 4 (omega arith) (omega arith) header (omega arith))
+      (λ before section-is k-is. event-sound before (eventIn body) section-is (rw (k-is, what, level, position) names))
+
+-- the loop goes on behind a run of acts
+pub onward-run : (s : List ℕ) (p : Progress) (end : ℕ) → Passed s (p .k) (p .at) end → p .section ≡ 4 →
+    Onward s p (record { at = end; section = p .section; k = p .k; q = p .q; w = p .w; requests = p .requests; steps = p .steps })
+onward-run s p end passed section-is = record {
+  onward = passed .onward;
+  inside = λ marks words table i.
+      let so = i .so-far in
+      let r = passed .run (so .before) (sym (so .known .section-is) ∙ section-is) (sym (so .known .k-is)) in
+      record {
+        short = i .short;
+        at-inside = passed .inside;
+        room = record {
+          steps-low = omega (arith, i .room .steps-low, passed .onward);
+          requests-low = i .room .requests-low;
+          marks-size = i .room .marks-size;
+          words-size = i .room .words-size;
+          table-size = i .room .table-size;
+        };
+        so-far = record {
+          before = r .all;
+          known = known-same (r .same) (so .known) (omega (arith, r .size-is, so .known .at-is)) (section-is ∙ sym (r .reached-is)) refl refl refl refl refl;
+          holds = holds-same (r .same) (so .holds);
+          verdict = so .verdict ∙ r .verdict;
+        };
+      };
+}
+
+pub onward-same : (s : List ℕ) (p : Progress) → Onward s p p
+onward-same s p = record { onward = omega arith; inside = λ marks words table i. i }
