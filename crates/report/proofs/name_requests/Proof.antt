@@ -1,0 +1,61 @@
+-- `report::name_requests` meets its contract: after n turns the addresses of the first n requests are marked.
+use Prim.Native.Nat.{ℕ, _-_, _≤_, _<_}
+use mathlib.Core.Path.{_≡_}
+use native.Mathlib.Omega.{arith}
+use borrow.Author.Needs.{needs}
+use Rattle.report.specs.Names.{Marked}
+use Rattle.report.proofs.Names.{marked-none, marked-more}
+use Rattle.report.proofs.name_requests.Statement.{statement}
+use Rattle.report.proofs.name_requests.Tie as tie
+
+abbrev Inv-loop : tie.InvT-loop
+Inv-loop table n given named₀ tag₀ named tag = (tag ≤ n) × Marked table tag given named
+
+abbrev μ-loop : tie.MeasureT-loop
+μ-loop table n given named₀ tag₀ named tag = n - tag
+
+copy-marks-requires : tie.Need-copy-marks-requires Inv-loop μ-loop
+copy-marks-requires c κs = search needs
+
+loop-holds : tie.Need-loop-holds Inv-loop μ-loop
+loop-holds c = (omega arith, marked-none (c .copy-marks .ensures))
+
+cast-address-of : tie.Need-cast-address-of Inv-loop μ-loop
+cast-address-of c = omega (arith, c .before .before .before .before .pre .0 .few)
+
+address-of-requires : tie.Need-address-of-requires Inv-loop μ-loop
+address-of-requires c κs = search needs
+
+low : (c : tie.After-address-of Inv-loop μ-loop) → c .address-of .result < 256
+low c = rw (c .address-of .ensures) (c .before .before .before .before .before .pre .0 .low (c .before .before .loop .tag))
+
+element-write-named : tie.Need-element-write-named Inv-loop μ-loop
+element-write-named c = low c
+
+add-tag : tie.Need-add-tag Inv-loop μ-loop
+add-tag c = search needs
+
+loop-less : tie.Need-loop-less Inv-loop μ-loop
+loop-less c = search needs
+
+loop-again : tie.Need-loop-again Inv-loop μ-loop
+loop-again c = (omega arith, rw (c .address-of .ensures) (marked-more (c .before .before .loop .tag) (c .before .before .before .before .before .pre .0 .low (c .before .before .loop .tag)) (c .before .before .loop .inv .1)))
+
+returns : tie.Need-returns Inv-loop μ-loop
+returns c = let e : c .before .loop .tag ≡ c .before .before .before .before .args .n = omega arith in rw (← e) (c .before .loop .inv .1)
+
+pub name-requests-spec : {M : Type 1} → statement M
+name-requests-spec =
+    tie.close
+    (tie.spec
+    Inv-loop
+    μ-loop
+    copy-marks-requires
+    loop-holds
+    cast-address-of
+    address-of-requires
+    element-write-named
+    add-tag
+    loop-less
+    loop-again
+    returns)

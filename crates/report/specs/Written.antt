@@ -1,0 +1,20 @@
+-- What the report's function promises, for every trace and every lent buffer.
+use Prim.Native.Nat.{ℕ, _≤_}
+use mathlib.Core.Path.{_≡_}
+use mathlib.Core.Bool.{Bool, true, false}
+use mathlib.Core.List.{List}
+use lib.ListN.{length, take}
+use lib.Dec.{leb}
+use Rattle.lists.specs.Choice.{choose}
+use Rattle.text.specs.Written.{reportRoom}
+use Rattle.model.specs.Result.{over}
+use Rattle.model.specs.Report.{report}
+use Rattle.report.specs.declared.Written.{Written}
+
+-- the text at the start of a buffer that has room for every report, and its length; a smaller buffer stays as it is
+pub record Reported (trace before : List ℕ) (r : Written) (after : List ℕ) : Type 0 where
+  pub fits-is : r .fits ≡ leb reportRoom (length before)
+  pub len-is : r .len ≡ choose (leb reportRoom (length before)) (length (report trace)) 0
+  pub text-is : after ≡ choose (leb reportRoom (length before)) (over (report trace) before) before
+  -- so that a caller may take the part that was written
+  pub counts : (r .len ≤ length after) × (r .len ≡ length (take (r .len) after))

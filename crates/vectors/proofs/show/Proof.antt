@@ -1,0 +1,28 @@
+use mathlib.Core.Path.{sym}
+use lib.Seq.{length-take-le}
+use native.Mathlib.Omega.{arith}
+use borrow.Author.Needs.{needs}
+use Rattle.vectors.proofs.show.Statement.{statement}
+use Rattle.vectors.proofs.show.Tie as tie
+use Rattle.vectors.proofs.show.Reads as reads
+use Rattle.vectors.proofs.show.Lts as lts
+use Rattle.io.proofs.write_all.Reads as write-all-reads
+
+-- src/main.rt:44:38
+slice-aggregate-write-all : tie.Need-slice-aggregate-write-all
+slice-aggregate-write-all c = sym (length-take-le _ _ (omega arith))
+
+-- src/main.rt:44:9
+write-all-requires : tie.Need-write-all-requires
+write-all-requires c κs = search needs
+
+-- src/main.rt:42:1
+returns : tie.Need-returns
+returns c = search needs
+
+-- src/main.rt:42:1
+returns-2 : tie.Need-returns-2
+returns-2 c = search needs
+
+pub show-spec : {M : Type 1} → statement M
+show-spec = tie.close (tie.spec slice-aggregate-write-all write-all-requires returns returns-2)
