@@ -1,16 +1,15 @@
 -- Drains, round by round.
-use Prim.Native.Nat.{ℕ, zero, suc, _+_, _-_, _≤_, _<_, _^_}
-use mathlib.Core.Path.{_≡_, refl, sym, ap, subst, _∙_}
+use Prim.Native.Nat.{ℕ, zero, suc, _-_, _≤_, _<_, _^_}
+use mathlib.Core.Path.{_≡_, refl, sym, ap, _∙_}
 use mathlib.Core.Bool.{Bool, true, false}
-use mathlib.Core.List.{List, [], _∷_, _++_}
+use mathlib.Core.List.{List}
 use native.Mathlib.Omega.{arith}
 use Rattle.machine.specs.Setup.{Setup}
-use Rattle.machine.specs.State.{State}
-use Rattle.machine.specs.Run.{Ran, runEvents, round, drainRun, allAnswered, answeredBelow}
+use Rattle.machine.specs.Run.{Ran, runEvents, round, drainRun, allAnswered}
 use Rattle.network.specs.declared.Shape.{Shape}
 use Rattle.network.specs.declared.Counts.{Counts}
-use Rattle.network.specs.Shown.{setup, queued, issuing, serving, answering, counted, answerIn, Memory, shown, shownRun}
-use Rattle.network.specs.Rounds.{Marked, Stays, ReadyRun, Moved, Drained, withRound}
+use Rattle.network.specs.Shown.{setup, queued, issuing, serving, answering, Memory, shown, shownRun}
+use Rattle.network.specs.Rounds.{Marked, Stays, ReadyRun, Moved, withRound}
 use Rattle.network.proofs.Reaching.{reached-drain, rounds-few}
 
 module _ (S : Setup) (r : Ran S) where
@@ -40,6 +39,9 @@ module _ {s : Shape} {requests : List ℕ} {m : Memory} {c : Counts} where
   unfolding drainRun
   drain-spent r = refl
 
+  pub run-few : ReadyRun s requests m c → c .rounds ≤ 2560
+  run-few r = rounds-few s requests (r .checked) (r .reached)
+
   -- ---- one round more
   module _ {m₁ : Memory} {d c₁ : Counts} (r : ReadyRun s requests m c) (g : Moved s requests (round (s .k) (2 ^ s .k)) m c m₁ d) (e : c₁ ≡ withRound d) where
     round-shown : shownRun s requests m₁ c₁ ≡ afterRound (setup s requests) (shownRun s requests m c)
@@ -48,9 +50,6 @@ module _ {s : Shape} {requests : List ℕ} {m : Memory} {c : Counts} where
 
     pub round-stays : Stays m c m₁ c₁
     round-stays = rw e (record { lengths = g .stays .lengths; grows = g .stays .grows; room = g .stays .room; places = g .stays .places; answers = g .stays .answers })
-
-    pub round-few : d .rounds ≤ 2560
-    round-few = omega (arith, g .rounds, rounds-few s requests (r .checked) (r .reached))
 
     module _ {b : Bool} (h : Marked (m .marks) (s .count) b) (f : b ≡ false) where
       pub round-drains : (n : ℕ) → 0 < n → drainRun (setup s requests) n (shownRun s requests m c) ≡ drainRun (setup s requests) (n - 1) (shownRun s requests m₁ c₁)

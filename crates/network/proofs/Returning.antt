@@ -31,9 +31,16 @@ took-none : (f : Found Pair) → None ≡ tookOf f → f ≡ absent
 took-none absent e = refl
 took-none (found older r younger) e = let z : _≡_ {A = ℕ} 0 1 = cc in absurd (omega arith)
 
-pub took-record : (f : Found Pair) (r : Pair) → Record r ≡ tookOf f → (older : List Pair) × (younger : List Pair) × (f ≡ found older r younger)
-took-record absent r e = let z : _≡_ {A = ℕ} 0 1 = cc in absurd (omega arith)
-took-record (found older r′ younger) r e = let z : r′ ≡ r = cc in (older, younger, ap (λ (x : Pair). found older x younger) z)
+pub took-record : (f : Found Pair) {r : Pair} → Record r ≡ tookOf f → (older : List Pair) × (younger : List Pair) × (f ≡ found older r younger)
+took-record absent e = let z : _≡_ {A = ℕ} 0 1 = cc in absurd (omega arith)
+took-record (found older r′ younger) {r} e = let z : r′ ≡ r = cc in (older, younger, ap (λ (x : Pair). found older x younger) z)
+
+-- the target of a reply that leaves its queue
+pub target-kept : (level position : ℕ) (net mid : List ℕ) (to : ℕ) → 0 < level →
+    Holds mid (requestTags net) (update2 (replyTags net) level position (drop 1 (replyTags net level position))) (waitPairs net) → replyTags mid (level - 1) to ≡ replyTags net (level - 1) to
+target-kept level position net mid to up popped =
+    ap (λ (f : ℕ → ℕ → List ℕ). f (level - 1) to) (popped .inReplies)
+    ∙ update2-level (replyTags net) level position (drop 1 (replyTags net level position)) (level - 1) to (λ e. omega arith)
 
 module _ (s : Shape) (requests : List ℕ) (level position : ℕ) (net : List ℕ) (up : 0 < level) where
   above : level ≡ suc (level - 1)
@@ -50,17 +57,12 @@ module _ (s : Shape) (requests : List ℕ) (level position : ℕ) (net : List �
     }
 
     module _ (mid : List ℕ) (popped : Holds mid (requestTags net) (update2 (replyTags net) level position (drop 1 (replyTags net level position))) (waitPairs net)) where
-      pub target-kept : replyTags mid (level - 1) to ≡ replyTags net (level - 1) to
-      target-kept =
-          ap (λ (f : ℕ → ℕ → List ℕ). f (level - 1) to) (popped .inReplies)
-          ∙ update2-level (replyTags net) level position (drop 1 (replyTags net level position)) (level - 1) to (λ e. omega arith)
-
       module _ (net′ : List ℕ) (room : length (replyTags net (level - 1) to) < s .q)
           (pushed : Holds net′ (requestTags mid) (update2 (replyTags mid) (level - 1) to (replyTags mid (level - 1) to ++ (t ∷ []))) (waitPairs mid)) where
         lowered-tags : replyTags net′ ≡ update2 (update2 (replyTags net) (suc (level - 1)) position (drop 1 (replyTags net level position))) (level - 1) to (replyTags net (level - 1) to ++ (t ∷ []))
         lowered-tags =
             pushed .inReplies
-            ∙ ap₂ (λ (f : ℕ → ℕ → List ℕ) (l : List ℕ). update2 f (level - 1) to (l ++ (t ∷ []))) (popped .inReplies) target-kept
+            ∙ ap₂ (λ (f : ℕ → ℕ → List ℕ) (l : List ℕ). update2 f (level - 1) to (l ++ (t ∷ []))) (popped .inReplies) (target-kept level position net mid to up popped)
             ∙ ap (λ (l : ℕ). update2 (update2 (replyTags net) l position (drop 1 (replyTags net level position))) (level - 1) to (replyTags net (level - 1) to ++ (t ∷ []))) above
 
         lowered-replies : (carried : List ℕ) → (repliesOver s requests carried (replyTags net′)) ≡
@@ -156,9 +158,9 @@ module _ (s : Shape) (requests : List ℕ) (level position : ℕ) (net : List �
       abbrev Answer : List (Reply (setup s requests)) → Found (WaitRecord (setup s requests)) → State (setup s requests) → State (setup s requests)
       Answer others f st = answered (setup s requests) (queued s requests net operations carried st) (level - 1) position (replyOf s requests carried t) others f
 
-      pub return-lowers : (net′ : List ℕ) → length carried ≡ 256 → None ≡ tookOf (oldestPair t (waitPairs net level position)) → Lowered s requests level position t net net′ →
+      pub return-lowers : {net′ : List ℕ} → length carried ≡ 256 → None ≡ tookOf (oldestPair t (waitPairs net level position)) → Lowered s requests level position t net net′ →
           ReturnStepped s requests operations level position net carried net′ carried
-      return-lowers net′ size e l = record {
+      return-lowers size e l = record {
         stepped = λ st.
             l .stepped operations carried st
             ∙ ap₂ (λ (others : List (Reply (setup s requests))) (f : Found (WaitRecord (setup s requests))). Answer others f st)
@@ -168,11 +170,11 @@ module _ (s : Shape) (requests : List ℕ) (level position : ℕ) (net : List �
         sizes = (l .size, size);
       }
 
-      pub return-splits : (r : Pair) (others : List Pair) (net′ carried′ : List ℕ) → Record r ≡ tookOf (oldestPair t (waitPairs net level position)) →
+      pub return-splits : {r : Pair} {others : List Pair} {net′ carried′ : List ℕ} → Record r ≡ tookOf (oldestPair t (waitPairs net level position)) →
           others ≡ leftOf (waitPairs net level position) (oldestPair t (waitPairs net level position)) → Split s requests operations level position t (r .second) others net carried net′ carried′ →
           ReturnStepped s requests operations level position net carried net′ carried′
-      return-splits r others net′ carried′ e left l =
-          let w = took-record (oldestPair t (waitPairs net level position)) r e in
+      return-splits {r} e left l =
+          let w = took-record (oldestPair t (waitPairs net level position)) e in
           record {
             stepped = λ st.
                 l .stepped (r .first) (w .0) (w .1) (repliesOf s requests carried rest) st (left ∙ ap (leftOf (waitPairs net level position)) (w .2))

@@ -20,16 +20,16 @@ use Rattle.network.specs.Replies.{tagsFor, NoReply, tookOne, recordsAt, 
 use Rattle.network.proofs.Expansion.{take-sets, drop-sets, stands-tags}
 use Rattle.network.proofs.Shown.{length-none, getD-update, state-eq, messagesOf, repliesOf, requestsOver, recordsOver, repliesOver, length-replies, requests-updated, requests-above, replies-updated, replies-append, value-stored, replies-framed}
 
+-- what the oldest message stands for has room
+pub room-tags : (s : Shape) (requests operations net : List ℕ) (position ordered room : ℕ) {t : ℕ} {rest : List ℕ} → requestTags net (s .k) position ≡ t ∷ rest →
+    Room s requests net operations ordered room (requestTags net (s .k) position) → ordered + length (tagsFor (s .k) requests (waitPairs net) (s .k) t) ≤ room
+room-tags s requests operations net position ordered room {t} is fits =
+    let h : ordered + length (standsFor (setup s requests) (recordsAt s requests net operations) (s .k) t) ≤ room = subst (Room s requests net operations ordered room) is fits in
+    rw (stands-tags (s .k) (s .q) (s .w) (s .count) requests operations (waitPairs net) (s .k) t) at h
+
 module _ (s : Shape) (requests operations : List ℕ) (position : ℕ) (net carried words order : List ℕ) (ordered : ℕ) (up : 0 < s .k) where
   abbrev Sizes : Type 0
   Sizes = (length net ≡ 2560) × (length carried ≡ 256) × (length words ≡ 256)
-
-  -- what the oldest message stands for has room
-  pub room-tags : (t : ℕ) (rest : List ℕ) → requestTags net (s .k) position ≡ t ∷ rest → Room s requests net operations ordered (length order) (requestTags net (s .k) position) →
-      ordered + length (tagsFor (s .k) requests (waitPairs net) (s .k) t) ≤ length order
-  room-tags t rest is room =
-      let h : ordered + length (standsFor (setup s requests) (recordsAt s requests net operations) (s .k) t) ≤ length order = subst (Room s requests net operations ordered (length order)) is room in
-      rw (stands-tags (s .k) (s .q) (s .w) (s .count) requests operations (waitPairs net) (s .k) t) at h
 
   -- ---- nothing to take
   idle : length (requestTags net (s .k) position) ≡ 0 → (st : State (setup s requests)) →

@@ -1,15 +1,15 @@
 -- From a step on its part of the memory to the step on the whole of it.
-use Prim.Native.Nat.{ℕ, zero, suc, _+_, _-_, _≤_, _<_}
-use mathlib.Core.Path.{_≡_, refl, sym, ap, subst, _∙_}
-use mathlib.Core.Logic.{_⊎_, inl, inr, _≢_}
+use Prim.Native.Nat.{ℕ, _-_, _≤_, _<_}
+use mathlib.Core.Path.{_≡_, refl, ap, _∙_}
+use mathlib.Core.Logic.{inr, _≢_}
 use mathlib.Core.Bool.{Bool, true, false}
-use mathlib.Core.List.{List, [], _∷_, _++_}
+use mathlib.Core.List.{List}
 use native.Mathlib.Omega.{arith}
-use lib.ListN.{length, getD, drop}
-use lib.Dec.{eqb, ltb, leb}
+use lib.ListN.{length}
+use lib.Dec.{ltb, leb}
 use borrow.Author.Tests.{ltb-true, leb-true, ne-eqb}
-use Rattle.lists.specs.Choice.{choose, both, within}
-use Rattle.lists.specs.Search.{All, nil, cons}
+use Rattle.lists.specs.Choice.{both, within}
+use Rattle.lists.specs.Search.{nil, cons}
 use Rattle.event.specs.Event.{Event, levelFits}
 use Rattle.machine.specs.State.{State, start}
 use Rattle.machine.specs.Steps.{step}

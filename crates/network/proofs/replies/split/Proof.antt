@@ -16,7 +16,7 @@ sub-below : tie.Need-sub-below
 sub-below c = search needs
 
 position-of-requires : tie.Need-position-of-requires
-position-of-requires c κs = ((omega (arith, c .pre .0 .shape, c .pre .1 .1 .0), omega (arith, c .pre .1 .1 .0)), c .pre .0 .engines (c .args .second))
+position-of-requires c κs = ((omega (arith, c .pre .0 .shape, c .pre .1 .1 .0), omega (arith, c .pre .1 .1 .0)), c .pre .0 .engines _)
 
 reply-count-requires : tie.Need-reply-count-requires
 reply-count-requires c κs = search needs
@@ -37,18 +37,23 @@ push-reply-requires : tie.Need-push-reply-requires
 push-reply-requires c κs = search needs
 
 store-waits-requires : tie.Need-store-waits-requires
-store-waits-requires c κs = let s = c .before .before .before .before .before .before .before .before .before .before .before .before .before in (c .before .push-reply .ensures .size, ((omega (arith, s .pre .0 .shape, s .pre .1 .1 .0), s .pre .1 .1 .0 .2), held-fits (s .pre .1 .1 .1 .1)))
+store-waits-requires c κs = let s = c .before .before .before .before .before .before .before .before .before .before .before .before .before in
+    (c .before .push-reply .ensures .size, ((omega (arith, s .pre .0 .shape, s .pre .1 .1 .0), s .pre .1 .1 .0 .2), held-fits (s .pre .1 .1 .1 .1)))
 
 returns : tie.Need-returns
 returns c = let s = c .before .before .before .before .before .before .before .before .before .before .before .before .before .before in
-    let v = c .before .before .before .before .set-value .ensures .0 ∙ ap (update (valueIn (s .args .carried .now)) (s .args .second))
-    (c .before .before .before .before .before .before .apply .ensures ∙ ap₂ (λ (f : Operation) (x : ℕ). applied f x) (c .before .before .before .before .before .before .before .before .before .operation-at .ensures) (c .before .before .before .before .before .before .before .value-at .ensures)) in
-    split-room (s .args .s) (s .args .requests .now) (s .args .level) (s .args .position) (s .args .net .now) (s .pre .1 .1 .0 .0) (s .args .operations .now) (s .args .carried .now) (s .args .t) (s .args .second) _ _ (c .before .before .before .before .before .before .before .before .before .before .before .before .before .position-of .ensures .0)
-    _ _ _ (s .pre .1 .1 .1 .0) (omega (arith, c .before .before .before .before .before .before .before .before .before .before .if1 .taken, c .before .before .before .before .before .before .before .before .before .before .before .reply-count .ensures)) v (c .before .before .push-reply .ensures) (c .store-waits .ensures) (c .before .before .before .before .set-value .ensures .1)
+    let n = c .before .before .before .before .before .before .before .before .before .before .before .reply-count .ensures in
+    let h = c .before .before .before .before .before .before .before .before .before .before .if1 .taken in
+    let f = c .before .before .before .before .before .before .before .before .before .operation-at .ensures in
+    let x = c .before .before .before .before .before .before .before .value-at .ensures in
+    let a = c .before .before .before .before .before .before .apply .ensures ∙ ap₂ (λ (f : Operation) (x : ℕ). applied f x) f x in
+    let v = c .before .before .before .before .set-value .ensures in
+    split-room _ _ _ _ _ (s .pre .1 .1 .0 .0) _ _ _ _ _ _ (c .before .before .before .before .before .before .before .before .before .before .before .before .before .position-of .ensures .0) _ _ _ (s .pre .1 .1 .1 .0) (omega (arith, h, n))
+    (v .0 ∙ ap (update (valueIn (s .args .carried .now)) (s .args .second)) a) (c .before .before .push-reply .ensures) (c .store-waits .ensures) (v .1)
 
 returns-2 : tie.Need-returns-2
 returns-2 c = let s = c .before .before .before .before in
-    split-full (s .args .s) (s .args .requests .now) (s .args .level) (s .args .position) (s .args .net .now) (s .pre .1 .1 .0 .0) (s .args .operations .now) (s .args .carried .now) (s .args .t) (s .args .second) _ _ (c .before .before .before .position-of .ensures .0) (s .pre .1 .0 .0) (s .pre .1 .0 .1) (omega (arith, c .if1 .left, c .before .reply-count .ensures))
+    split-full _ _ _ _ _ (s .pre .1 .1 .0 .0) _ _ _ _ _ _ (c .before .before .before .position-of .ensures .0) (s .pre .1 .0 .0) (s .pre .1 .0 .1) (omega (arith, c .if1 .left, c .before .reply-count .ensures))
 
 pub split-spec : {M : Type 1} → statement M
 split-spec =

@@ -81,7 +81,7 @@ popped-requires c κs = let s = c .before .before .before .before .before .befor
 
 store-requests-requires : tie.Need-store-requests-requires
 store-requests-requires c κs = let s = c .before .before .before .before .before .before .before .before .before .before .before .before .before .before .before in
-    (c .before .before .before .before .before .before .land .ensures .holds .size, ((omega (arith, s .pre .0 .shape .1, s .pre .1 .1 .1 .1), s .pre .1 .1 .1 .2), held-fits (c .before .popped .ensures .1)))
+    (c .before .before .before .before .before .before .land .ensures .holds .size, ((omega (arith, s .pre .0 .shape .1, s .pre .1 .1 .1 .1), s .pre .1 .1 .1 .2), search held-fits))
 
 returns-3 : tie.Need-returns-3
 returns-3 c = let s = c .before .before .before .before .before .before .before .before .before .before .before .before .before .before .before .before in

@@ -43,11 +43,11 @@ returns-2 c = let s = c .before .before .before .before .before .before .before 
 
 store-requests-requires : tie.Need-store-requests-requires
 store-requests-requires c κs = let s = c .before .before .before .before .before .before .before .before .before .before .before .before .before .before .before in
-    (s .pre .0 .0, ((s .pre .1 .0 .2, s .pre .1 .0 .3), held-fits (c .before .before .before .before .before .before .arrive .ensures .held .queue)))
+    (s .pre .0 .0, ((s .pre .1 .0 .2, s .pre .1 .0 .3), search held-fits))
 
 store-waits-requires : tie.Need-store-waits-requires
 store-waits-requires c κs = let s = c .before .before .before .before .before .before .before .before .before .before .before .before .before .before .before .before .before in
-    (c .before .store-requests .ensures .size, ((s .pre .1 .0 .2, s .pre .1 .0 .3), held-fits (c .before .before .before .before .before .before .before .before .arrive .ensures .held .waiting)))
+    (c .before .store-requests .ensures .size, ((s .pre .1 .0 .2, s .pre .1 .0 .3), search held-fits))
 
 returns-3 : tie.Need-returns-3
 returns-3 c = let s = c .before .before .before .before .before .before .before .before .before .before .before .before .before .before .before .before .before .before in
