@@ -23,5 +23,6 @@ pub mod OnePlace
 pub mod Time
 pub mod Moments
 pub mod StepCounts
+pub mod Rest
 pub mod Demand3
 pub mod Document01

@@ -1,14 +1,14 @@
 -- The acts of a trace, run one by one on the memory.
 use Prim.Native.Nat.{ℕ, _+_, _≤_, _<_, _^_}
 use mathlib.Core.Path.{_≡_, refl, sym, _∙_, ap}
-use mathlib.Core.Bool.{true}
+use mathlib.Core.Bool.{Bool, true}
 use mathlib.Core.List.{List, [], _∷_}
 use native.Mathlib.Omega.{arith}
 use lib.ListN.{length}
 use lib.Dec.{ltb}
 use borrow.Author.Tests.{ltb-true}
 use Rattle.lists.specs.Search.{All, nil, cons}
-use Rattle.lists.proofs.Every.{all-head, all-tail}
+use Rattle.lists.proofs.Every.{all-head, all-tail, all-map}
 use Rattle.event.specs.Event.{Event, Act, event, drain, levelFits, namesStep}
 use Rattle.machine.specs.Run.{Ran, runEvents, drainRun, runAct, runActs}
 use Rattle.wiring.proofs.Shifts.{width-small}
@@ -18,12 +18,14 @@ use Rattle.trace.specs.declared.acts.Due.the-variants.{End, Event as EventDue, 
 use Rattle.trace.proofs.Tests.{both-true}
 use Rattle.trace.proofs.ActsLeft.{Next, next-event, next-drain, next-end}
 use Rattle.network.specs.Shown.{setup, Memory, shown, shownRun, Checked}
-use Rattle.network.specs.Rounds.{single, Stays, ReadyRun, Moved, Drained}
+use Rattle.network.specs.Rounds.{single, Marked, Stays, ReadyRun, Moved, Drained}
 use Rattle.network.specs.declared.Shape.{Shape}
 use Rattle.network.specs.declared.Counts.{Counts}
 use Rattle.network.proofs.Moving.{stays-same, stays-onward}
 use Rattle.network.proofs.Reaching.{reached-event}
+use Rattle.network.proofs.Drains.{all-rest}
 use Rattle.model.specs.Run.{ActsReady, ActsRun}
+use Rattle.model.proofs.Demands.{act-named}
 
 module _ (trace : List ℕ) (from : ℕ) (s : Shape) (requests : List ℕ) (m₀ : Memory) (c₀ : Counts) where
   -- of the acts that were left at the start, these are left
@@ -124,6 +126,14 @@ module _ {trace : List ℕ} {from : ℕ} {s : Shape} {requests : List ℕ} {m₀
           let k = g .rest acts l i in
           let e = next-end (k .left) (k .are-left) (sym (r .is (k .left) (k .are-left))) in
           rw e at (k .runs);
+      sized = g .ready .sized;
+      stays = g .stays;
+    }
+
+    -- where every request is answered, what is left moves nothing
+    pub going-rests : {b : Bool} → Marked (m .marks) (s .count) b → b ≡ true → ActsRun trace from s requests m₀ c₀ m c
+    going-rests h e = record {
+      shows = λ acts l i. let k = g .rest acts l i in sym (all-rest (g .ready) h e (k .left) (all-map (act-named (s .k)) (k .are-in))) ∙ k .runs;
       sized = g .ready .sized;
       stays = g .stays;
     }

@@ -117,6 +117,10 @@ fn acts_from(
                     marks,
                     allowed,
                 );
+                // what follows could move nothing
+                if rounds::all_answered(marks, s.count) {
+                    return c;
+                }
                 at += 6;
             }
         }

@@ -4,13 +4,15 @@ use Prim.Native.Nat.{ℕ, suc, _≤_}
 use mathlib.Core.Path.{_≡_}
 use mathlib.Core.Bool.{Bool}
 use mathlib.Core.List.{List, [], _∷_}
-use lib.ListN.{length, drop}
+use lib.ListN.{length, getD, drop}
+use lib.Dec.{eqb, ltb, leb}
 use Rattle.lists.specs.Choice.{choose}
 use Rattle.event.specs.Event.{Event}
 use Rattle.machine.specs.State.{State}
 use Rattle.machine.specs.Run.{runEvents, drainRun, answeredBelow}
 use Rattle.node.specs.declared.Outcome.{Outcome}
 use Rattle.node.specs.declared.Outcome.the-variants.{Merged, Appended, Refused}
+use Rattle.store.specs.Sites.{requestTags, replyTags}
 use Rattle.network.specs.declared.Shape.{Shape}
 use Rattle.network.specs.declared.Counts.{Counts}
 use Rattle.network.specs.declared.replies.Served.{Served}
@@ -32,6 +34,14 @@ memory next net operations carried words order values marks = record {
 -- "the event's what byte picks the step": one event, by itself
 abbrev pub single : (what level position : ℕ) → List Event
 single what level position = record { what = what; level = level; position = position } ∷ []
+
+-- nothing is there to move: an issue's engine has no request left from its place on; a forward's or a module step's request queue is
+-- empty; a return's or a collect's reply queue is
+abbrev pub restsAt : Shape → (next net : List ℕ) → (what level position : ℕ) → Bool
+restsAt s next net what level position =
+    choose (eqb what 0) (leb (s .count) (getD next position 0))
+    (choose (ltb what 3) (eqb (length (requestTags net level position)) 0)
+    (eqb (length (replyTags net level position)) 0))
 
 -- "merges .. as counted in the defined run": an arrival that merged counts one
 abbrev pub withMerge : Outcome → Counts → Counts

@@ -12,10 +12,74 @@ ghost use Prim.Native.Nat.{_-_, _≤_, _<_, _^_};
 ghost use lib.ListN.{length};
 ghost use Rattle.event.specs.Event.{levelFits};
 ghost use Rattle.machine.specs.Run.{row, rowsUp, rowsDown, round};
-ghost use Rattle.network.specs.Rounds.{memory, single, withMerge, withAccess, withRound, Marked, Ready, ReadyRun, Moved, Drained};
+ghost use Rattle.network.specs.Rounds.{memory, single, restsAt, withMerge, withAccess, withRound, Marked, Ready, ReadyRun, Moved, Drained};
 
-// One event.
+// One event. Most have nothing to move, which one look at the queue tells.
 pub fn step(
+    c: Counts,
+    s: Shape,
+    requests: &[u64; 1280],
+    next: &mut [u64; 16],
+    net: &mut [u8; 2560],
+    operations: &mut [u64; 768],
+    carried: &mut [u64; 256],
+    words: &mut [u64; 256],
+    order: &mut [u64],
+    values: &mut [u64],
+    marks: &mut [u8],
+    what: u8,
+    level: usize,
+    position: usize,
+) -> Counts
+    requires { ⌜ Ready s (now requests) (memory (now next) (now net) (now operations) (now carried) (now words) (now order) (now values) (now marks)) c ⌝ }
+    requires { ⌜ levelFits (s .k) what level ≡ true ⌝ }
+    requires { ⌜ position < 16 ⌝ }
+    ensures { λ r. ⌜ Moved s (now (requests .entry)) (single what level position) (memory (now (next .entry)) (now (net .entry)) (now (operations .entry)) (now (carried .entry)) (now (words .entry)) (now (order .entry)) (now (values .entry)) (now (marks .entry))) c (memory (now (next .exit)) (now (net .exit)) (now (operations .exit)) (now (carried .exit)) (now (words .exit)) (now (order .exit)) (now (values .exit)) (now (marks .exit))) r ⌝ }
+{
+    if rests(s, next, net, what, level, position) {
+        return c;
+    }
+    take_step(
+        c,
+        s,
+        requests,
+        next,
+        net,
+        operations,
+        carried,
+        words,
+        order,
+        values,
+        marks,
+        what,
+        level,
+        position,
+    )
+}
+
+// Whether the queue that the step takes its oldest from is empty.
+fn rests(
+    s: Shape,
+    next: &[u64; 16],
+    net: &[u8; 2560],
+    what: u8,
+    level: usize,
+    position: usize,
+) -> bool
+    requires { ⌜ (length (now next) ≡ 16) × (level < 5) × (position < 16) ⌝ }
+    ensures { λ r. ⌜ r ≡ restsAt s (now (next .entry)) (now (net .entry)) what level position ⌝ }
+{
+    if what == 0 {
+        return s.count <= next[position] as usize;
+    }
+    if what < 3 {
+        return store::request_count(net, level, position) == 0;
+    }
+    store::reply_count(net, level, position) == 0
+}
+
+// The step that the what byte picks.
+fn take_step(
     c: Counts,
     s: Shape,
     requests: &[u64; 1280],
@@ -145,23 +209,27 @@ fn row(
     let mut d = c;
     let mut p = 0;
     while p < n {
-        d = step(
-            d,
-            s,
-            requests,
-            next,
-            net,
-            operations,
-            carried,
-            words,
-            order,
-            values,
-            marks,
-            what,
-            level,
-            p,
-        );
-        p += 1;
+        if rests(s, next, net, what, level, p) {
+            p += 1;
+        } else {
+            d = take_step(
+                d,
+                s,
+                requests,
+                next,
+                net,
+                operations,
+                carried,
+                words,
+                order,
+                values,
+                marks,
+                what,
+                level,
+                p,
+            );
+            p += 1;
+        }
     }
     d
 }
@@ -429,7 +497,7 @@ fn round(
 }
 
 // "every request is answered"
-fn all_answered(marks: &[u8], count: usize) -> bool
+pub fn all_answered(marks: &[u8], count: usize) -> bool
     requires { ⌜ count ≤ length (now marks) ⌝ }
     ensures { λ r. ⌜ Marked (now (marks .entry)) count r ⌝ }
 {

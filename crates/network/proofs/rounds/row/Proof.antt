@@ -1,10 +1,11 @@
 -- `row` meets its contract: the row's events, position by position.
 use Prim.Native.Nat.{_-_, _≤_}
-use mathlib.Core.Path.{_≡_}
+use mathlib.Core.Path.{_≡_, sym, _∙_}
 use native.Mathlib.Omega.{arith}
 use Rattle.machine.specs.Run.{row}
 use Rattle.network.specs.Rounds.{memory, Moved}
 use Rattle.network.proofs.Moving.{row-none, row-onward}
+use Rattle.network.proofs.Rests.{level-low, rests-moves}
 use Rattle.network.proofs.rounds.row.Statement.{statement}
 use Rattle.network.proofs.rounds.row.Tie as tie
 
@@ -20,21 +21,41 @@ loop-holds : tie.Need-loop-holds Inv-loop μ-loop
 loop-holds c = let s = c .before .before .before in
     (omega arith, row-none (s .args .what) (s .args .level) (s .pre .0))
 
-step-requires : tie.Need-step-requires Inv-loop μ-loop
-step-requires c κs = let l = c .before .before .before .before .before .before .before .before .before in
-    let s = l .before .before .before .before in
-    (l .loop .inv .1 .ready, (s .pre .1 .0, omega (arith, c .before .before .before .before .before .before .before .before .loop-test .taken, s .pre .1 .1)))
+rests-requires : tie.Need-rests-requires Inv-loop μ-loop
+rests-requires c κs = let l = c .before .before .before .loop .inv .1 .ready in
+    let s = c .before .before .before .before .before .before .before in
+    (l .sized .next, level-low (s .args .s .k) (s .args .what) (s .args .level) (l .checked .shape .1) (s .pre .1 .0), omega (arith, c .before .before .loop-test .taken, s .pre .1 .1))
 
 add-p : tie.Need-add-p Inv-loop μ-loop
-add-p c = omega (arith, c .before .before .before .before .before .before .before .before .before .before .before .before .before .before .before .loop-test .taken, c .before .before .before .before .before .before .before .before .before .before .before .before .before .before .before .before .before .before .before .before .pre .1 .1)
+add-p c = omega (arith, c .before .before .before .before .loop-test .taken, c .before .before .before .before .before .before .before .before .before .pre .1 .1)
 
 loop-less : tie.Need-loop-less Inv-loop μ-loop
-loop-less c = omega (arith, c .before .before .before .before .before .before .before .before .before .before .before .before .before .before .before .loop-test .taken)
+loop-less c = omega (arith, c .before .before .before .before .loop-test .taken)
 
 loop-again : tie.Need-loop-again Inv-loop μ-loop
-loop-again c = let l = c .before .before .before .before .before .before .before .before .before .before .before .before .before .before .before .before in
-    let s = l .before .before .before .before in
-    (omega (arith, c .before .before .before .before .before .before .before .before .before .before .before .before .before .before .before .loop-test .taken), row-onward (s .args .what) (s .args .level) (l .loop .p) (l .loop .inv .1) (c .before .before .before .before .before .before .step .ensures))
+loop-again c = let l = c .before .before .before .before .before .loop in
+    let s = c .before .before .before .before .before .before .before .before .before in
+    (
+      omega (arith, c .before .before .before .before .loop-test .taken),
+      row-onward (s .args .what) (s .args .level) (l .p) (l .inv .1)
+      (rests-moves (s .args .what) (s .args .level) (l .p) (l .inv .1 .ready) (s .pre .1 .0) (sym (c .before .rests .ensures) ∙ c .if1 .taken)),
+    )
+
+take-step-requires : tie.Need-take-step-requires Inv-loop μ-loop
+take-step-requires c κs = let l = c .before .before .before .before .before .before .before .before .before .before .before .before .before .loop in
+    let s = c .before .before .before .before .before .before .before .before .before .before .before .before .before .before .before .before .before in
+    (l .inv .1 .ready, (s .pre .1 .0, omega (arith, c .before .before .before .before .before .before .before .before .before .before .before .before .loop-test .taken, s .pre .1 .1)))
+
+add-p-2 : tie.Need-add-p-2 Inv-loop μ-loop
+add-p-2 c = omega (arith, c .before .before .before .before .before .before .before .before .before .before .before .before .before .before .before .before .before .before .before .loop-test .taken, c .before .before .before .before .before .before .before .before .before .before .before .before .before .before .before .before .before .before .before .before .before .before .before .before .pre .1 .1)
+
+loop-less-2 : tie.Need-loop-less-2 Inv-loop μ-loop
+loop-less-2 c = omega (arith, c .before .before .before .before .before .before .before .before .before .before .before .before .before .before .before .before .before .before .before .loop-test .taken)
+
+loop-again-2 : tie.Need-loop-again-2 Inv-loop μ-loop
+loop-again-2 c = let l = c .before .before .before .before .before .before .before .before .before .before .before .before .before .before .before .before .before .before .before .before .loop in
+    let s = c .before .before .before .before .before .before .before .before .before .before .before .before .before .before .before .before .before .before .before .before .before .before .before .before in
+    (omega (arith, c .before .before .before .before .before .before .before .before .before .before .before .before .before .before .before .before .before .before .before .loop-test .taken), row-onward (s .args .what) (s .args .level) (l .p) (l .inv .1) (c .before .before .before .before .before .before .take-step .ensures))
 
 same-length : tie.Need-same-length Inv-loop μ-loop
 same-length c = c .before .loop .inv .1 .stays .lengths .0
@@ -57,10 +78,14 @@ row-spec =
     Inv-loop
     μ-loop
     loop-holds
-    step-requires
+    rests-requires
     add-p
     loop-less
     loop-again
+    take-step-requires
+    add-p-2
+    loop-less-2
+    loop-again-2
     same-length
     same-length-2
     same-length-3

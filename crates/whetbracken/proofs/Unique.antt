@@ -1,0 +1,64 @@
+-- Only one result and one content of the lent memory keep each promise: document 01, "How tightly the statements bind". And the six
+-- numbers tell each answer from every other.
+use Prim.Native.Nat.{ℕ, _≤_}
+use mathlib.Core.Path.{_≡_, refl, sym, _∙_, ap}
+use mathlib.Core.List.{List}
+use native.Mathlib.Omega.{arith}
+use Rattle.trace.specs.Answers.{numberOf}
+use Rattle.trace.specs.declared.Fault.{Fault}
+use Rattle.trace.specs.declared.Fault.the-variants.{Cut, Kind, Length, Order, Range, Twice, Operand, Step, Many, Long}
+use Rattle.model.specs.Result.{Lent}
+use Rattle.model.specs.Promise.{Said, refused, counted, says}
+use Rattle.model.specs.declared.Answer.{Answer}
+use Rattle.model.specs.declared.Answer.the-variants.{Accepted, Refused, NoRoom}
+use Rattle.model.proofs.Unique.{says-injective}
+use Rattle.whetbracken.specs.Interface.{numbers, Answered, Wrote}
+use Rattle.whetbracken.specs.declared.Numbers.{Numbers}
+
+pub only-one : (trace : List ℕ) (before : Lent) (r r′ : Numbers) (m m′ : Lent) → Answered trace before r m → Answered trace before r′ m′ → (r ≡ r′) × (m ≡ m′)
+only-one trace before r r′ m m′ p p′ = (p .answer-is ∙ sym (p′ .answer-is), p .memory-is ∙ sym (p′ .memory-is))
+
+pub only-one-report : (trace before : List ℕ) (n n′ : ℕ) (after after′ : List ℕ) → Wrote trace before n after → Wrote trace before n′ after′ → (n ≡ n′) × (after ≡ after′)
+only-one-report trace before n n′ after after′ p p′ = (p .len-is ∙ sym (p′ .len-is), p .text-is ∙ sym (p′ .text-is))
+
+-- ---- no refusal has number 0
+abbrev Numbered : Said → Type 0
+Numbered (refused n offset) = 1 ≤ n
+Numbered (counted ordered accesses merges rounds) = Unit {0}
+
+number-some : (f : Fault) → 1 ≤ numberOf f
+number-some Cut = omega arith
+number-some Kind = omega arith
+number-some Length = omega arith
+number-some Order = omega arith
+number-some Range = omega arith
+number-some Twice = omega arith
+number-some Operand = omega arith
+number-some Step = omega arith
+number-some Many = omega arith
+number-some Long = omega arith
+
+numbered : (a : Answer) → Numbered (says a)
+numbered (Accepted c) = tt
+numbered (Refused f offset) = number-some f
+numbered NoRoom = omega arith
+
+refusal-is : {r r′ : Numbers} → r ≡ r′ → r .refusal ≡ r′ .refusal
+refusal-is e = ap (λ (r : Numbers). r .refusal) e
+
+said-tell : (s t : Said) → Numbered s → Numbered t → numbers s ≡ numbers t → s ≡ t
+said-tell (refused n o) (refused n′ o′) h h′ e =
+    let number : n ≡ n′ = refusal-is e in
+    let offset : o ≡ o′ = ap (λ (r : Numbers). r .offset) e in
+    cc
+said-tell (refused n o) (counted a b c d) h h′ e = absurd (omega (arith, refusal-is e))
+said-tell (counted a b c d) (refused n o) h h′ e = absurd (omega (arith, refusal-is e))
+said-tell (counted a b c d) (counted a′ b′ c′ d′) h h′ e =
+    let ordered : a ≡ a′ = ap (λ (r : Numbers). r .ordered) e in
+    let accesses : b ≡ b′ = ap (λ (r : Numbers). r .accesses) e in
+    let merges : c ≡ c′ = ap (λ (r : Numbers). r .merges) e in
+    let rounds : d ≡ d′ = ap (λ (r : Numbers). r .rounds) e in
+    cc
+
+pub numbers-tell : (a b : Answer) → numbers (says a) ≡ numbers (says b) → a ≡ b
+numbers-tell a b e = says-injective a b (said-tell (says a) (says b) (numbered a) (numbered b) e)

@@ -1,0 +1,71 @@
+/* The model of a combining network, for C: documents "Trace records" and "What a trace is told" say what a trace is and what it is
+ * told. Each function is proved to give this result for every trace and all lent memory, and keeps nothing between calls. Any
+ * number of calls may run at once.
+ *
+ * What a caller owes, and no proof can see: each pointer is aligned, not null (also where its length is 0), and leads to as many
+ * elements as the length beside it says; no two of the lent parts overlap, nor does one overlap the trace; and a call has about
+ * 64 KB of stack. */
+#ifndef WHETBRACKEN_H
+#define WHETBRACKEN_H
+
+#include <stddef.h>
+#include <stdint.h>
+
+#ifdef __cplusplus
+extern "C" {
+#endif
+
+/* A longer trace is refused; a trace has at most so many requests; a memory has so many words. */
+#define WHETBRACKEN_MOST_BYTES 65536
+#define WHETBRACKEN_MOST_REQUESTS 256
+#define WHETBRACKEN_WORDS 256
+
+/* So many bytes hold every report. */
+#define WHETBRACKEN_REPORT_ROOM 49344
+
+/* What a trace is refused for. */
+enum whetbracken_refusal {
+    WHETBRACKEN_ACCEPTED = 0,
+    WHETBRACKEN_CUT = 1,      /* the trace ends inside a record */
+    WHETBRACKEN_KIND = 2,     /* a kind that there is none of */
+    WHETBRACKEN_LENGTH = 3,   /* a length that is not its kind's */
+    WHETBRACKEN_ORDER = 4,    /* no shape first, a second one, or a section out of its order */
+    WHETBRACKEN_RANGE = 5,    /* k, Q or W out of range */
+    WHETBRACKEN_TWICE = 6,    /* a word given twice */
+    WHETBRACKEN_OPERAND = 7,  /* no such engine or operation, or an operand that must be zero is not */
+    WHETBRACKEN_STEP = 8,     /* an event that names no step */
+    WHETBRACKEN_MANY = 9,     /* a 257th request */
+    WHETBRACKEN_LONG = 10,    /* more than 65,536 bytes */
+    WHETBRACKEN_NO_ROOM = 11, /* too little memory lent */
+};
+
+/* An answer: 0 and the counts of the run; or the refusal's number and the offset of the faulty record's first byte (0 for 10, 11
+ * and an empty trace), and counts of 0. */
+struct whetbracken_numbers {
+    uint64_t refusal;
+    uint64_t offset;
+    uint64_t ordered;  /* the order list's length */
+    uint64_t accesses; /* module steps that took a message */
+    uint64_t merges;
+    uint64_t rounds;   /* drain rounds run */
+};
+
+/* Checks a trace whole, then runs it. Of an accepted trace with R requests the first R replies are the values (0 where unanswered),
+ * the first R marks are 1 where answered and else 0, the first `ordered` order places are the order list's tags, and the first 256
+ * words are the memory; all that is lent beyond those stays, and so does all that is lent where the trace is refused. */
+struct whetbracken_numbers whetbracken_model(
+    const uint8_t *trace, size_t trace_len,
+    uint64_t *replies, size_t replies_len,
+    uint8_t *marks, size_t marks_len,
+    uint64_t *order, size_t order_len,
+    uint64_t *words, size_t words_len);
+
+/* Writes the report of a trace, as the trace runner prints it, at the start of out and returns its length; the rest of out stays.
+ * Where out_len is below WHETBRACKEN_REPORT_ROOM the result is 0 and all of out stays. No report is empty. */
+size_t whetbracken_report(const uint8_t *trace, size_t trace_len, uint8_t *out, size_t out_len);
+
+#ifdef __cplusplus
+}
+#endif
+
+#endif
