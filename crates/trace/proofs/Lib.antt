@@ -12,4 +12,5 @@ pub mod Verdicts
 pub mod Runs
 pub mod Levels
 pub mod Answers
+pub mod Held
 pub mod Examples

@@ -4,7 +4,7 @@ use mathlib.Core.List.{List}
 use mathlib.Core.Path.{_≡_}
 use lib.ListN.{length, getD, take, drop}
 use Rattle.lists.specs.Choice.{choose}
-use Rattle.trace.specs.Bytes.{Split, nothing, faulty, whole, bodySize}
+use Rattle.trace.specs.Bytes.{Split, nothing, faulty, whole, bodySize, split}
 use Rattle.trace.specs.Item.{Items, size}
 use Rattle.trace.specs.Contents.{shapeOf, wordsOf, requestsOf, given, startWords, requestTable, stepsAt}
 use Rattle.trace.specs.Check.{Verdict, refused, accepted, itemsOf, check}
@@ -46,6 +46,11 @@ abbrev pub HeadFits : ℕ → ℕ → Head → Type 0
 HeadFits n at End = Unit {0}
 HeadFits n at (Bad f) = Unit {0}
 HeadFits n at (Record kind size) = RecordFits n at kind size
+
+-- the head that is read of the trace s at offset `at`
+pub record HeadRead (s : List ℕ) (at : ℕ) (r : Head) : Type 0 where
+  pub says : headSays s at r ≡ split (drop at s)
+  pub fits : HeadFits (length s) at r
 
 -- what a trace is told: a number and an offset, or that it is accepted, and what it says of itself
 pub data Told : Type 0 where

@@ -10,6 +10,7 @@ use turn::Turn;
 pub mod acts;
 mod bytes;
 mod progress;
+pub mod reader;
 pub mod record;
 mod rules;
 mod turn;

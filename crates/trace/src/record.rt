@@ -2,8 +2,8 @@
 ghost use mathlib.Core.Path.{_≡_};
 ghost use Prim.Native.Nat.{_+_, _≤_};
 ghost use lib.ListN.{length, take, drop};
-ghost use Rattle.trace.specs.Bytes.{bodySize, split};
-ghost use Rattle.trace.specs.Answers.{headSays, HeadFits};
+ghost use Rattle.trace.specs.Bytes.{bodySize};
+ghost use Rattle.trace.specs.Answers.{HeadRead};
 use crate::Fault;
 use crate::bytes::number2;
 
@@ -30,8 +30,7 @@ fn body_size(kind: u64) -> u64
 // The header at an offset, with the faults that a record has in itself.
 pub fn head_at(s: &[u8], at: usize) -> Head
     requires { ⌜ at ≤ length (now s) ⌝ }
-    ensures { λ r. ⌜ headSays (now (s .entry)) at r ≡ split (drop at (now (s .entry))) ⌝ }
-    ensures { λ r. ⌜ HeadFits (length (now (s .entry))) at r ⌝ }
+    ensures { λ r. ⌜ HeadRead (now (s .entry)) at r ⌝ }
 {
     let left = s.len() - at;
     if left == 0 {

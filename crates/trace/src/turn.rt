@@ -8,9 +8,9 @@ use crate::acts::EVENT_SIZE;
 use crate::bytes::number4;
 use crate::progress::Progress;
 use crate::progress::noted;
+use crate::reader::head_due;
 use crate::record::Head;
 use crate::record::body;
-use crate::record::head_at;
 use crate::rules::Finding;
 use crate::rules::names_step;
 use crate::rules::record_fault;
@@ -33,7 +33,7 @@ pub fn one_turn(
     ensures { λ r. ⌜ TurnRight (now (s .entry)) p (now (marks .exit)) (now (words .exit)) (now (table .exit)) r ⌝ }
 {
     let at = p.at;
-    let found = head_at(s, at);
+    let found = head_due(s, at);
     match found {
         Head::End => Turn::Stop,
         Head::Bad(f) => Turn::Fail(f),

@@ -12,11 +12,11 @@ at-body : (c : tie.After-body) →
     Body (now (d .s)) (d .p .at) (c .before .before .found2 .given .0 .0) (c .before .before .found2 .given .0 .1 .0) (now (c .body .result))
 at-body c =
     let told = c .before .before .found2 .given .1 in
-    let head = c .before .before .before .before .head-at .ensures in
-    body-at (rw told at (head .0)) (rw told at (head .1)) (c .body .ensures)
+    let head = c .before .before .before .before .head-due .ensures in
+    body-at (rw told at (head .says)) (rw told at (head .fits)) (c .body .ensures)
 
-head-at-requires : tie.Need-head-at-requires
-head-at-requires c κs = search needs
+head-due-requires : tie.Need-head-due-requires
+head-due-requires c κs = search needs
 
 enum-told : tie.Need-enum-told
 enum-told c = search needs
@@ -28,7 +28,7 @@ enum-known-found-2 : tie.Need-enum-known-found-2
 enum-known-found-2 c = search needs
 
 body-requires : tie.Need-body-requires
-body-requires c κs = rw (c .before .found2 .given .1) at (c .before .before .before .head-at .ensures .1) .inside
+body-requires c κs = rw (c .before .found2 .given .1) at (c .before .before .before .head-due .ensures .fits) .inside
 
 record-fault-requires : tie.Need-record-fault-requires
 record-fault-requires c κs = let h = at-body (c .before) in let i = c .before .before .before .before .before .before .before .pre in (h .long ∙ h .fits .right, i .room .marks-size, i .so-far .known .k-low)
@@ -49,10 +49,10 @@ enum-known-finding : tie.Need-enum-known-finding
 enum-known-finding c = search needs
 
 returns : tie.Need-returns
-returns c = turn-stop (c .before .before .before .before .pre) (sym (rw (c .enum-told .given .1) at (c .before .before .head-at .ensures .0)))
+returns c = turn-stop (c .before .before .before .before .pre) (sym (rw (c .enum-told .given .1) at (c .before .before .head-due .ensures .says)))
 
 returns-2 : tie.Need-returns-2
-returns-2 c = turn-bad (c .before .before .before .before .before .pre) (c .before .found .given .0 .0) (sym (rw (c .before .found .given .1) at (c .before .before .before .head-at .ensures .0)))
+returns-2 c = turn-bad (c .before .before .before .before .before .pre) (c .before .found .given .0 .0) (sym (rw (c .before .found .given .1) at (c .before .before .before .head-due .ensures .says)))
 
 returns-3 : tie.Need-returns-3
 returns-3 c = let h = at-body (c .before .before .before .before .before .before .before .before) in let i = c .before .before .before .before .before .before .before .before .before .before .before .before .before .before .pre in
@@ -66,7 +66,7 @@ pub one-turn-spec : {M : Type 1} → statement M
 one-turn-spec =
     tie.close
     (tie.spec
-    head-at-requires
+    head-due-requires
     enum-told
     enum-known-found
     enum-known-found-2
