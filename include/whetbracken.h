@@ -1,10 +1,19 @@
-/* The model of a combining network, for C: documents "Trace records" and "What a trace is told" say what a trace is and what it is
- * told. Each function is proved to give this result for every trace and all lent memory, and keeps nothing between calls. Any
- * number of calls may run at once.
+/* The model of a combining omega network, for C.
+ *
+ * A trace is a string of records: a shape; words; requests; then events and drains, mixed. A record is the length of its body (2
+ * bytes), its kind (2 bytes) and its body; numbers are unsigned, least significant byte first.
+ *   1 shape    k, Q, W: the network has 2^k engines, queues have room Q, wait buffers room W
+ *   2 word     address, value (8 bytes)
+ *   3 request  engine, operation (0 load, 1 swap, 2 add, 3 mask), address, first and second operand (8 bytes each)
+ *   4 event    what (0 issue, 1 forward, 2 module, 3 return, 4 collect), level, position
+ *   5 drain    the most rounds (2 bytes)
+ *
+ * Each function below is proved to do what its comment says, for every trace and all lent memory. It keeps nothing between calls, so
+ * any number of calls may run at once.
  *
  * What a caller owes, and no proof can see: each pointer is aligned, not null (also where its length is 0), and leads to as many
- * elements as the length beside it says; no two of the lent parts overlap, nor does one overlap the trace; and a call has about
- * 64 KB of stack. */
+ * elements as the length beside it says; no two of the lent parts overlap, nor does one overlap the trace; and a call has 64 KB of
+ * stack. */
 #ifndef WHETBRACKEN_H
 #define WHETBRACKEN_H
 

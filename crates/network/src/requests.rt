@@ -32,6 +32,9 @@ pub fn forward(
     }
     let t = store::oldest_request(net, level, position);
     let to = node::position_of(requests, k, t, level + 1);
+    if is_full(net, s, level + 1, to) {
+        return Outcome::Refused;
+    }
     let outcome = land(net, operations, requests, s, t, level + 1, to);
     if is_refused(outcome) {
         return outcome;
@@ -61,7 +64,7 @@ pub fn issue(
     let k = s.k;
     let count = s.count;
     let from = next[e] as usize;
-    let i = next_of(requests, s, e, from);
+    let i = next_of(requests, count, e, from);
     if count <= i {
         return Outcome::Refused;
     }
@@ -69,11 +72,14 @@ pub fn issue(
     let asked = node::asked_of(requests, t);
     node::set_operation(operations, t, asked);
     let to = node::position_of(requests, k, t, 1);
+    if is_full(net, s, 1, to) {
+        return Outcome::Refused;
+    }
     let outcome = land(net, operations, requests, s, t, 1, to);
     if is_refused(outcome) {
         return outcome;
     }
-    let after = next_of(requests, s, e, i + 1);
+    let after = next_of(requests, count, e, i + 1);
     next[e] = after as u64;
     outcome
 }
@@ -88,7 +94,7 @@ pub fn first_requests(requests: &[u64; 1280], s: Shape, next: &mut [u64; 16], n:
     let mut e = 0;
     while e < n {
         let from = next[e] as usize;
-        let first = next_of(requests, s, e, from);
+        let first = next_of(requests, s.count, e, from);
         next[e] = first as u64;
         e += 1;
     }
@@ -111,9 +117,6 @@ fn land(
 {
     let q = s.q;
     let w = s.w;
-    if is_full(net, s, level, position) {
-        return Outcome::Refused;
-    }
     let queue = store::load_requests(net, level, position);
     let waiting = store::load_waits(net, level, position);
     let node = Node {
@@ -157,12 +160,11 @@ fn is_refused(o: Outcome) -> bool
 }
 
 // The first request of engine e from a tag on, or the number of requests.
-fn next_of(requests: &[u64; 1280], s: Shape, e: usize, from: usize) -> usize
-    requires { ⌜ s .count ≤ 256 ⌝ }
-    ensures { λ r. ⌜ r ≡ firstFrom (now (requests .entry)) e (s .count - from) from ⌝ }
+fn next_of(requests: &[u64; 1280], count: usize, e: usize, from: usize) -> usize
+    requires { ⌜ count ≤ 256 ⌝ }
+    ensures { λ r. ⌜ r ≡ firstFrom (now (requests .entry)) e (count - from) from ⌝ }
 {
     let engine = e as u64;
-    let count = s.count;
     let mut t = from;
     while t < count {
         if requests[t * 5] == engine {

@@ -34,11 +34,10 @@ loop-less c = omega (arith, c .before .before .before .before .loop-test .taken)
 
 loop-again : tie.Need-loop-again Inv-loop μ-loop
 loop-again c = let l = c .before .before .before .before .before .loop in
-    let s = c .before .before .before .before .before .before .before .before .before in
-    (
+    let s = c .before .before .before .before .before .before .before .before .before in (
       omega (arith, c .before .before .before .before .loop-test .taken),
       row-onward (s .args .what) (s .args .level) (l .p) (l .inv .1)
-      (rests-moves (s .args .what) (s .args .level) (l .p) (l .inv .1 .ready) (s .pre .1 .0) (sym (c .before .rests .ensures) ∙ c .if1 .taken)),
+          (rests-moves (s .args .what) (s .args .level) (l .p) (l .inv .1 .ready) (s .pre .1 .0) (sym (c .before .rests .ensures) ∙ c .if1 .taken)),
     )
 
 take-step-requires : tie.Need-take-step-requires Inv-loop μ-loop
