@@ -2,10 +2,12 @@
 use Prim.Native.Nat.{ℕ, _+_, _*_, _≤_, _<_}
 use mathlib.Core.Path.{_≡_, refl, ap, sym, _∙_}
 use mathlib.Core.List.{List}
-use mathlib.Core.Bool.{true}
+use mathlib.Core.Bool.{Bool, true, false}
 use native.Mathlib.Omega.{arith}
 use native.Mathlib.Nat.{add-zero}
 use lib.ListN.{length, getD, take, drop, length-drop}
+use lib.Dec.{eqb}
+use borrow.Author.Tests.{eqb-true}
 use lib.Seq.{drop-drop, getD-take, getD-drop}
 use Rattle.event.specs.Event.{Event, Act, namesStep}
 use Rattle.trace.specs.Bytes.{AreBytes, number, bodySize}
@@ -14,8 +16,9 @@ use Rattle.trace.specs.Contents.{shapeOf, sectionOf, section, reached}
 use Rattle.trace.specs.Refusals.{fault, orElse, mayFollow, ownFault}
 use Rattle.trace.specs.Check.{decide, judge}
 use Rattle.trace.specs.Acts.{itemOf, actSize}
-use Rattle.trace.specs.Loop.{Same, Passed, Onward}
+use Rattle.trace.specs.Loop.{Same, Passed, DrainsPassed, FourDrains, Onward}
 use Rattle.trace.specs.declared.progress.Progress.{Progress}
+use Rattle.trace.proofs.Tests.{clash}
 use Rattle.trace.proofs.Numbers.{number-drop, number-join, number-below}
 use Rattle.trace.proofs.Records.{Whole, is-whole, body-long, records-whole}
 use Rattle.trace.proofs.Known.{act-same, act-section, known-same, holds-same}
@@ -110,6 +113,47 @@ module _ {s : List ℕ} {k at end : ℕ} (are : AreBytes s) (p : Passed s k at e
       passed-act p (Act.event (eventIn body)) inside
       (record-stands are end 4 (omega arith) (omega arith) header (omega arith))
       (λ before section-is k-is. event-sound before (eventIn body) section-is (rw (k-is, what, level, position) names))
+
+-- ---- drains, four at a stride
+pub not-four : {s : List ℕ} {i : ℕ} → FourDrains s i false
+not-four = record { headers = λ e. clash (cc) }
+
+pub four-told : {s : List ℕ} {i : ℕ} → number 4 s i ≡ 327682 → number 4 s (i + 6) ≡ 327682 → number 4 s (i + 12) ≡ 327682 → (n : ℕ) → n ≡ number 4 s (i + 18) → FourDrains s i (eqb n 327682)
+four-told a b c n d = record { headers = λ e. (a, b, c, sym d ∙ eqb-true n 327682 e) }
+
+pub drains-start : (s : List ℕ) (at : ℕ) → at ≤ length s → DrainsPassed s at at
+drains-start s at h = record { passed = λ k. passed-start s k at h }
+
+pub passed-four : {s : List ℕ} {at i : ℕ} → AreBytes s → DrainsPassed s at i → i + 24 ≤ length s → {b : Bool} → FourDrains s i b → b ≡ true → DrainsPassed s at (i + 24)
+passed-four {s} {at} {i} are p inside f e =
+    let h = f .headers e in
+    let e2 : i + 6 + 6 ≡ i + 12 = omega arith in
+    let e3 : i + 12 + 6 ≡ i + 18 = omega arith in
+    let e4 : i + 18 + 6 ≡ i + 24 = omega arith in
+    record {
+      passed = λ k.
+          let p1 = passed-drain are (p .passed k) (omega arith) (h .0) in
+          let p2 : Passed s k at (i + 12) = rw e2 at (passed-drain are p1 (omega arith) (h .1)) in
+          let p3 : Passed s k at (i + 18) = rw e3 at (passed-drain are p2 (omega arith) (h .2)) in
+          rw e4 at (passed-drain are p3 (omega arith) (h .3));
+    }
+
+-- one run of acts behind another
+pub passed-then : {s : List ℕ} {k at mid end : ℕ} → Passed s k at mid → Passed s k mid end → Passed s k at end
+passed-then p q = record {
+  onward = omega (arith, p .onward, q .onward);
+  inside = q .inside;
+  run = λ before section-is k-is.
+      let r = p .run before section-is k-is in
+      let t = q .run (r .all) (r .reached-is) (sym (ap (λ (s : Shape). s .k) (r .same .shape-is)) ∙ k-is) in
+      record {
+        all = t .all;
+        same = same-then (r .same) (t .same);
+        reached-is = t .reached-is;
+        size-is = omega (arith, r .size-is, t .size-is);
+        verdict = r .verdict ∙ t .verdict;
+      };
+}
 
 -- the loop goes on behind a run of acts
 pub onward-run : (s : List ℕ) (p : Progress) (end : ℕ) → Passed s (p .k) (p .at) end → p .section ≡ 4 →

@@ -2,11 +2,12 @@
 -- function names it.
 use Prim.Native.Nat.{ℕ, _+_, _≤_, _<_}
 use mathlib.Core.Path.{_≡_}
+use mathlib.Core.Bool.{Bool, true}
 use mathlib.Core.List.{List}
 use lib.ListN.{length, getD, drop}
 use lib.Dec.{eqb}
 use Rattle.lists.specs.Choice.{choose}
-use Rattle.trace.specs.Bytes.{bodySize}
+use Rattle.trace.specs.Bytes.{number, bodySize}
 use Rattle.trace.specs.Item.{Shape, Item, Items, after, size, records, recordSize}
 use Rattle.trace.specs.Contents.{contents, shapeOf, wordsOf, requestsOf, given, startWords, requestTable, reached, stepsAt}
 use Rattle.trace.specs.Refusals.{ownFault, fault}
@@ -142,6 +143,14 @@ pub record Passed (s : List ℕ) (k at end : ℕ) : Type 0 where
   pub onward : at ≤ end
   pub inside : end ≤ length s
   pub run : (before : Items) → reached before ≡ 4 → shapeOf before .k ≡ k → Run s before at end
+
+-- and whatever the shape, where they are drains
+pub record DrainsPassed (s : List ℕ) (at end : ℕ) : Type 0 where
+  pub passed : (k : ℕ) → Passed s k at end
+
+-- the headers of four drains stand at offset i and on
+pub record FourDrains (s : List ℕ) (i : ℕ) (r : Bool) : Type 0 where
+  pub headers : r ≡ true → (number 4 s i ≡ 327682) × (number 4 s (i + 6) ≡ 327682) × (number 4 s (i + 12) ≡ 327682) × (number 4 s (i + 18) ≡ 327682)
 
 pub record Onward (s : List ℕ) (p p′ : Progress) : Type 0 where
   pub onward : p .at ≤ p′ .at

@@ -1,7 +1,7 @@
 // One turn of the check: a record, or a run of acts.
-ghost use Prim.Native.Nat.{_≤_};
+ghost use Prim.Native.Nat.{_+_, _≤_};
 ghost use lib.ListN.{length};
-ghost use Rattle.trace.specs.Loop.{Inside, TurnRight, Passed, Onward};
+ghost use Rattle.trace.specs.Loop.{Inside, TurnRight, Passed, DrainsPassed, FourDrains, Onward};
 use crate::Fault;
 use crate::acts::DRAIN_SIZE;
 use crate::acts::EVENT_SIZE;
@@ -53,6 +53,8 @@ const EVENT_HEADER: u64 = 3 + 65536 * 4;
 
 const DRAIN_HEADER: u64 = 2 + 65536 * 5;
 
+const FOUR_DRAINS: usize = 4 * DRAIN_SIZE;
+
 // The end of the events and drains that are not refused, from an offset on.
 fn acts_end(s: &[u8], at: usize, k: u8) -> usize
     requires { ⌜ (at ≤ length (now s)) × (length (now s) ≤ 65536) × (k ≤ 4) ⌝ }
@@ -66,7 +68,7 @@ fn acts_end(s: &[u8], at: usize, k: u8) -> usize
         }
         let head = number4(s, i);
         if head == DRAIN_HEADER {
-            i += DRAIN_SIZE;
+            i = past_drains(s, i + DRAIN_SIZE);
         } else {
             if head != EVENT_HEADER {
                 return i;
@@ -81,6 +83,38 @@ fn acts_end(s: &[u8], at: usize, k: u8) -> usize
             }
         }
     }
+}
+
+// Past drains, four at a stride: a trace may end in thousands of them. Those that are left are passed one by one.
+fn past_drains(s: &[u8], at: usize) -> usize
+    requires { ⌜ (at ≤ length (now s)) × (length (now s) ≤ 65536) ⌝ }
+    ensures { λ r. ⌜ DrainsPassed (now (s .entry)) at r ⌝ }
+{
+    let mut i = at;
+    while s.len() - i >= FOUR_DRAINS {
+        if four_drains(s, i) {
+            i += FOUR_DRAINS;
+        } else {
+            return i;
+        }
+    }
+    i
+}
+
+fn four_drains(s: &[u8], i: usize) -> bool
+    requires { ⌜ i + 24 ≤ length (now s) ⌝ }
+    ensures { λ r. ⌜ FourDrains (now (s .entry)) i r ⌝ }
+{
+    if number4(s, i) != DRAIN_HEADER {
+        return false;
+    }
+    if number4(s, i + 6) != DRAIN_HEADER {
+        return false;
+    }
+    if number4(s, i + 12) != DRAIN_HEADER {
+        return false;
+    }
+    number4(s, i + 18) == DRAIN_HEADER
 }
 
 // Past the acts that are not refused: most of a long trace, so they take the short way.

@@ -1,10 +1,11 @@
+-- `acts_end` meets its contract: act by act, as far as none is refused.
 use Prim.Native.Nat.{_-_}
 use mathlib.Core.Path.{_∙_, sym}
 use native.Mathlib.Omega.{arith}
 use lib.ListN.{length}
 use borrow.Author.Needs.{needs}
 use Rattle.trace.specs.Loop.{Passed}
-use Rattle.trace.proofs.Runs.{passed-start, passed-drain, passed-event}
+use Rattle.trace.proofs.Runs.{passed-start, passed-drain, passed-then, passed-event}
 use Rattle.trace.proofs.turn.acts_end.Statement.{statement}
 use Rattle.trace.proofs.turn.acts_end.Tie as tie
 
@@ -26,14 +27,19 @@ returns c = c .before .loop .inv
 number4-requires : tie.Need-number4-requires Inv-loop μ-loop
 number4-requires c κs = omega arith
 
-add-i : tie.Need-add-i Inv-loop μ-loop
-add-i c = omega arith
+add-past-drains : tie.Need-add-past-drains Inv-loop μ-loop
+add-past-drains c = omega arith
+
+past-drains-requires : tie.Need-past-drains-requires Inv-loop μ-loop
+past-drains-requires c κs = (omega arith, c .before .before .before .before .before .pre .1)
 
 loop-less : tie.Need-loop-less Inv-loop μ-loop
-loop-less c = omega arith
+loop-less c = omega (arith, c .past-drains .ensures .passed 0 .onward, c .past-drains .ensures .passed 0 .inside)
 
 loop-again : tie.Need-loop-again Inv-loop μ-loop
-loop-again c = passed-drain (record { below = λ j. c .before .before .before .before .shared-slice-known .given j .fits }) (c .before .before .before .loop .inv) (omega arith) (sym (c .before .number4 .ensures .0) ∙ c .if2 .taken)
+loop-again c = passed-then
+    (passed-drain (record { below = λ j. c .before .before .before .before .before .shared-slice-known .given j .fits }) (c .before .before .before .before .loop .inv) (omega arith) (sym (c .before .before .number4 .ensures .0) ∙ c .before .if2 .taken))
+    (c .past-drains .ensures .passed _)
 
 returns-2 : tie.Need-returns-2 Inv-loop μ-loop
 returns-2 c = c .before .before .before .before .loop .inv
@@ -62,8 +68,8 @@ shared-slice-read-names-step-3 c = omega arith
 names-step-requires : tie.Need-names-step-requires Inv-loop μ-loop
 names-step-requires c κs = search needs
 
-add-i-2 : tie.Need-add-i-2 Inv-loop μ-loop
-add-i-2 c = omega arith
+add-i : tie.Need-add-i Inv-loop μ-loop
+add-i c = omega arith
 
 loop-less-2 : tie.Need-loop-less-2 Inv-loop μ-loop
 loop-less-2 c = omega arith
@@ -85,7 +91,8 @@ acts-end-spec =
     sub-left
     returns
     number4-requires
-    add-i
+    add-past-drains
+    past-drains-requires
     loop-less
     loop-again
     returns-2
@@ -97,7 +104,7 @@ acts-end-spec =
     add-names-step-3
     shared-slice-read-names-step-3
     names-step-requires
-    add-i-2
+    add-i
     loop-less-2
     loop-again-2
     returns-4)

@@ -1,0 +1,54 @@
+-- `past_drains` meets its contract: stride by stride.
+use Prim.Native.Nat.{_-_}
+use native.Mathlib.Omega.{arith}
+use lib.ListN.{length}
+use Rattle.trace.specs.Loop.{DrainsPassed}
+use Rattle.trace.proofs.Runs.{drains-start, passed-four}
+use Rattle.trace.proofs.turn.past_drains.Statement.{statement}
+use Rattle.trace.proofs.turn.past_drains.Tie as tie
+
+abbrev Inv-loop : tie.InvT-loop
+Inv-loop s at i₀ i = DrainsPassed s at i
+
+abbrev μ-loop : tie.MeasureT-loop
+μ-loop s at i₀ i = length s - i
+
+loop-holds : tie.Need-loop-holds Inv-loop μ-loop
+loop-holds c = drains-start _ _ (c .before .pre .0)
+
+sub-loop : tie.Need-sub-loop Inv-loop μ-loop
+sub-loop c = c .loop .inv .passed 0 .inside
+
+four-drains-requires : tie.Need-four-drains-requires Inv-loop μ-loop
+four-drains-requires c κs = omega (arith, c .loop-test .taken, c .before .loop .inv .passed 0 .inside)
+
+add-i : tie.Need-add-i Inv-loop μ-loop
+add-i c = omega (arith, c .before .before .loop-test .taken, c .before .before .before .loop .inv .passed 0 .inside, c .before .before .before .before .before .pre .1)
+
+loop-less : tie.Need-loop-less Inv-loop μ-loop
+loop-less c = omega (arith, c .before .before .loop-test .taken, c .before .before .before .loop .inv .passed 0 .inside)
+
+loop-again : tie.Need-loop-again Inv-loop μ-loop
+loop-again c = passed-four (record { below = λ j. c .before .before .before .before .shared-slice-known .given j .fits }) (c .before .before .before .loop .inv)
+    (omega (arith, c .before .before .loop-test .taken, c .before .before .before .loop .inv .passed 0 .inside)) (c .before .four-drains .ensures) (c .if1 .taken)
+
+returns : tie.Need-returns Inv-loop μ-loop
+returns c = c .before .before .before .loop .inv
+
+returns-2 : tie.Need-returns-2 Inv-loop μ-loop
+returns-2 c = c .before .loop .inv
+
+pub past-drains-spec : {M : Type 1} → statement M
+past-drains-spec =
+    tie.close
+    (tie.spec
+    Inv-loop
+    μ-loop
+    loop-holds
+    sub-loop
+    four-drains-requires
+    add-i
+    loop-less
+    loop-again
+    returns
+    returns-2)
