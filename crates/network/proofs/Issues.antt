@@ -6,6 +6,8 @@ use mathlib.Core.Bool.{true, false}
 use mathlib.Core.List.{List, [], _∷_}
 use native.Mathlib.Omega.{arith}
 use lib.ListN.{length}
+use lib.Dec.{leb}
+use Rattle.lists.specs.Choice.{both}
 use Rattle.lists.specs.Table.{update, update2}
 use Rattle.lists.specs.Search.{All}
 use Rattle.lists.proofs.Tables.{update-same}
@@ -17,12 +19,12 @@ use Rattle.machine.specs.Steps.{sent, forwardStep}
 use Rattle.node.specs.Tables.{addressIn, askedIn, operationIn}
 use Rattle.node.specs.declared.Outcome.{Outcome}
 use Rattle.node.specs.declared.Outcome.the-variants.{Refused}
-use Rattle.store.specs.Sites.{requestTags}
+use Rattle.store.specs.Sites.{requestTags, waitPairs}
 use Rattle.network.specs.Shown.{setup, aboveEngines, queued, unissuedFrom, issuing, ofRequests, ofRecords, Apart}
 use Rattle.network.specs.Requests.{isRefused, tally, nodeShown, ApartAt, Nowhere, Unseen, Landed, Issued}
 use Rattle.network.specs.declared.Shape.{Shape}
 use Rattle.network.proofs.Queued.{message, messages, replies, state-same, queued-unseen}
-use Rattle.network.proofs.Landings.{refused-is}
+use Rattle.network.proofs.Landings.{refused-is, full-refuses}
 use Rattle.network.proofs.Forwards.{forward-none, forward-stays, forward-sends, update2-two, apart-at, requests-elsewhere, waits-sent}
 
 module _ (s : Shape) (requests net operations next : List ℕ) (e : ℕ) where
@@ -32,6 +34,20 @@ module _ (s : Shape) (requests net operations next : List ℕ) (e : ℕ) where
   unfolding tally queued issuing
   issued-none h x y z = record {
     issues = λ carried st. forward-none (setup s requests) (queued s requests net operations carried (issuing s requests next st)) 0 e h;
+    sizeNet = x;
+    sizeOperations = y;
+    sizeNext = z;
+  }
+
+  -- ---- there is no room for it
+  pub issued-full : (t : ℕ) (rest : List (Message (setup s requests))) → unissuedFrom s requests next e ≡ asked (setup s requests) t ∷ rest → (to : ℕ) → to ≡ place (setup s requests) t 1 →
+      both (leb (s .q) (length (requestTags net 1 to))) (leb (s .w) (length (waitPairs net 1 to))) ≡ true → length net ≡ 2560 → length operations ≡ 768 → length next ≡ 16 →
+      Issued s requests e net operations next net operations next Refused
+  unfolding tally queued issuing
+  issued-full t rest is to at full x y z = record {
+    issues = λ carried st.
+        forward-stays (setup s requests) (queued s requests net operations carried (issuing s requests next st)) 0 e (asked (setup s requests) t) rest is to at Refused (nodeShown s requests net operations 1 to)
+        (full-refuses s requests net operations t 1 to full (asked (setup s requests) t)) refl;
     sizeNet = x;
     sizeOperations = y;
     sizeNext = z;

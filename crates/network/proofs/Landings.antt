@@ -85,15 +85,19 @@ held-fits h = record { within = h .room; size = h .size }
 
 module _ (s : Shape) (requests net operations : List ℕ) (t level position : ℕ) where
   -- ---- neither the queue nor the wait buffer has room
+  pub full-refuses : both (leb (s .q) (length (requestTags net level position))) (leb (s .w) (length (waitPairs net level position))) ≡ true → (m : Message (setup s requests)) →
+      arrive (setup s requests) (nodeShown s requests net operations level position) m ≡ refused
+  full-refuses e m =
+      let b = both-true _ _ e in
+      arrive-full (setup s requests) (nodeShown s requests net operations level position) m
+      (rw (length-map (requestTags net level position) (message s requests operations)) (leb-true _ _ (b .0)))
+      (rw (length-map (waitPairs net level position) (recordIn (s .k) (s .q) (s .w) (s .count) requests operations)) (leb-true _ _ (b .1)))
+
   pub landed-full : length net ≡ 2560 → length operations ≡ 768 → both (leb (s .q) (length (requestTags net level position))) (leb (s .w) (length (waitPairs net level position))) ≡ true →
       Landed s requests net operations t level position net operations Refused
   landed-full z y e =
-      let b = both-true _ _ e in
       record {
-        arrives =
-            arrive-full (setup s requests) (nodeShown s requests net operations level position) (message s requests operations t)
-            (rw (length-map (requestTags net level position) (message s requests operations)) (leb-true _ _ (b .0)))
-            (rw (length-map (waitPairs net level position) (recordIn (s .k) (s .q) (s .w) (s .count) requests operations)) (leb-true _ _ (b .1)));
+        arrives = full-refuses e (message s requests operations t);
         refusal = λ _. (refl, refl);
         holds = record {
           size = z;

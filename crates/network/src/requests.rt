@@ -69,12 +69,12 @@ pub fn issue(
         return Outcome::Refused;
     }
     let t = i as u8;
-    let asked = node::asked_of(requests, t);
-    node::set_operation(operations, t, asked);
     let to = node::position_of(requests, k, t, 1);
     if is_full(net, s, 1, to) {
         return Outcome::Refused;
     }
+    let asked = node::asked_of(requests, t);
+    node::set_operation(operations, t, asked);
     let outcome = land(net, operations, requests, s, t, 1, to);
     if is_refused(outcome) {
         return outcome;
