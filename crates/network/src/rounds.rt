@@ -184,7 +184,7 @@ fn add_round(c: Counts) -> Counts
     }
 }
 
-// The same step at each position below n.
+// The same step at each position below n. It looks before it calls, as `step` does, so that the look stays in the loop.
 fn row(
     c: Counts,
     s: Shape,
