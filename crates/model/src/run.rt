@@ -3,6 +3,7 @@ use network::Counts;
 use network::Shape;
 use network::requests;
 use network::rounds;
+use network::steps;
 use trace::acts;
 use trace::acts::Due;
 ghost use mathlib.Core.Path.{_≡_};
@@ -84,7 +85,7 @@ fn acts_from(
                 return c;
             }
             Due::Event(what, level, position) => {
-                c = rounds::step(
+                c = steps::step(
                     c,
                     s,
                     table,
