@@ -1,12 +1,21 @@
--- The numbers of an answer that keeps the promise of `model` keep that of the C interface.
+-- What the C interface says, straight from the definition of a trace's result, and the three demands of it.
+use Prim.Native.Nat.{ℕ}
 use mathlib.Core.Path.{_≡_, _∙_, ap}
 use mathlib.Core.List.{List}
-use Prim.Native.Nat.{ℕ}
-use Rattle.model.specs.Result.{Lent}
-use Rattle.model.specs.Promise.{says, Promised}
-use Rattle.model.specs.declared.Answer.{Answer}
+use Rattle.trace.specs.Bytes.{AreBytes}
+use Rattle.model.specs.Result.{Lent, result, memoryAfter}
+use Rattle.model.specs.Promise.{said}
+use Rattle.model.specs.Demands.{Demands}
+use Rattle.model.proofs.Demands.{demands}
 use Rattle.whetbracken.specs.Interface.{numbers, Answered}
 use Rattle.whetbracken.specs.declared.Numbers.{Numbers}
 
-pub answered : {trace : List ℕ} {before after : Lent} {a : Answer} {r : Numbers} → Promised trace before a after → r ≡ numbers (says a) → Answered trace before r after
-answered p e = record { answer-is = e ∙ ap numbers (p .answer-is); memory-is = p .memory-is }
+module _ {trace : List ℕ} {before after : Lent} {r : Numbers} (p : Answered trace before r after) where
+  pub numbers-said : r ≡ numbers (said (result trace before))
+  numbers-said = p .numbers-are ∙ ap numbers (p .promised .answer-is)
+
+  pub memory-left : after ≡ memoryAfter (result trace before) before
+  memory-left = p .promised .memory-is
+
+  pub meets-demands : AreBytes trace → Demands trace before (p .answer) after
+  meets-demands are = demands trace are before (p .answer) after (p .promised)

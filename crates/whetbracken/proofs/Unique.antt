@@ -12,11 +12,12 @@ use Rattle.model.specs.Promise.{Said, refused, counted, says}
 use Rattle.model.specs.declared.Answer.{Answer}
 use Rattle.model.specs.declared.Answer.the-variants.{Accepted, Refused, NoRoom}
 use Rattle.model.proofs.Unique.{says-injective}
+use Rattle.whetbracken.proofs.Answers.{numbers-said, memory-left}
 use Rattle.whetbracken.specs.Interface.{numbers, Answered, Wrote}
 use Rattle.whetbracken.specs.declared.Numbers.{Numbers}
 
 pub only-one : (trace : List ℕ) (before : Lent) (r r′ : Numbers) (m m′ : Lent) → Answered trace before r m → Answered trace before r′ m′ → (r ≡ r′) × (m ≡ m′)
-only-one trace before r r′ m m′ p p′ = (p .answer-is ∙ sym (p′ .answer-is), p .memory-is ∙ sym (p′ .memory-is))
+only-one trace before r r′ m m′ p p′ = (numbers-said p ∙ sym (numbers-said p′), memory-left p ∙ sym (memory-left p′))
 
 pub only-one-report : (trace before : List ℕ) (n n′ : ℕ) (after after′ : List ℕ) → Wrote trace before n after → Wrote trace before n′ after′ → (n ≡ n′) × (after ≡ after′)
 only-one-report trace before n n′ after after′ p p′ = (p .len-is ∙ sym (p′ .len-is), p .text-is ∙ sym (p′ .text-is))

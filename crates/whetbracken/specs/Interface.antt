@@ -6,8 +6,9 @@ use lib.ListN.{length}
 use lib.Dec.{leb}
 use Rattle.lists.specs.Choice.{choose}
 use Rattle.text.specs.Written.{reportRoom}
-use Rattle.model.specs.Result.{Lent, result, memoryAfter, over}
-use Rattle.model.specs.Promise.{Said, refused, counted, said}
+use Rattle.model.specs.Result.{Lent, over}
+use Rattle.model.specs.Promise.{Said, refused, counted, says, Promised}
+use Rattle.model.specs.declared.Answer.{Answer}
 use Rattle.model.specs.Report.{report}
 use Rattle.whetbracken.specs.declared.Numbers.{Numbers}
 
@@ -17,10 +18,11 @@ abbrev pub numbers : Said → Numbers
 numbers (refused n offset) = record { refusal = n; offset = offset; ordered = 0; accesses = 0; merges = 0; rounds = 0 }
 numbers (counted ordered accesses merges rounds) = record { refusal = 0; offset = 0; ordered = ordered; accesses = accesses; merges = merges; rounds = rounds }
 
--- the answer, and the final content of all lent memory
+-- the numbers of an answer that keeps the promise of `model`, with the final content of all lent memory
 pub record Answered (trace : List ℕ) (before : Lent) (r : Numbers) (after : Lent) : Type 0 where
-  pub answer-is : r ≡ numbers (said (result trace before))
-  pub memory-is : after ≡ memoryAfter (result trace before) before
+  pub answer : Answer
+  pub numbers-are : r ≡ numbers (says answer)
+  pub promised : Promised trace before answer after
 
 -- the report at the start of a buffer that has room for every report, and its length; a smaller buffer stays as it is, and the length is 0
 pub record Wrote (trace before : List ℕ) (len : ℕ) (after : List ℕ) : Type 0 where

@@ -1,6 +1,5 @@
 -- `whetbracken::whetbracken_model` meets its contract: it is `model`, its answer in numbers.
 use borrow.Author.Needs.{needs}
-use Rattle.whetbracken.proofs.Answers.{answered}
 use Rattle.whetbracken.proofs.whetbracken_model.Statement.{statement}
 use Rattle.whetbracken.proofs.whetbracken_model.Tie as tie
 
@@ -23,7 +22,7 @@ same-length-4 : tie.Need-same-length-4
 same-length-4 c = search needs
 
 returns : tie.Need-returns
-returns c = answered (c .before .before .before .before .before .before .before .before .before .model .ensures) (c .numbers-of .ensures)
+returns c = record { answer = _; numbers-are = c .numbers-of .ensures; promised = c .before .before .before .before .before .before .before .before .before .model .ensures }
 
 pub whetbracken-model-spec : {M : Type 1} → statement M
 whetbracken-model-spec =
