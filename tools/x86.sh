@@ -9,7 +9,8 @@ else
     emulator=$(dirname "$(readlink -f "$(command -v rt)")")/../on/$machine/toolchain/bin/qemu-x86_64
     [ -x "$emulator" ] || missing="the kit's emulator for $machine"
 fi
-command -v "$cc" >/dev/null || missing="a C compiler for x86-64 ($cc; Debian: $packages)"
+echo 'int main(void) { return 0; }' | $cc -static -x c -o /dev/null - 2>/dev/null ||
+    missing="a C compiler for x86-64 with a static C library ($cc; Debian: $packages)"
 
 x86() { $emulator "$@"; }
 

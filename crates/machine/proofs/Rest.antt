@@ -5,16 +5,15 @@ use mathlib.Core.Bool.{true}
 use mathlib.Core.List.{List, [], _∷_}
 use mathlib.Core.Option.{Option, none, some}
 use native.Mathlib.Omega.{arith}
-use Rattle.lists.specs.Search.{All, nil, cons}
+use Rattle.lists.specs.Search.{All, cons}
 use Rattle.event.specs.Event.{Act, event, drain}
 use Rattle.machine.specs.Setup.{Setup}
 use Rattle.machine.specs.State.{State}
-use Rattle.machine.specs.Steps.{step}
 use Rattle.machine.specs.Run.{isAnswered, allAnswered, Ran, drainRun, runAct, runActs}
 use Rattle.machine.specs.Order.{Named, atStart}
 use Rattle.machine.specs.Lawful.{Lawful}
 use Rattle.machine.proofs.Lists.{clash}
-use Rattle.machine.proofs.Places.{remaining, remaining-end, left}
+use Rattle.machine.proofs.Places.{remaining-end, left}
 use Rattle.machine.proofs.Progress.{Live, move-live}
 use Rattle.machine.proofs.Start.{start-live}
 use Rattle.machine.proofs.StepsMove.{Does, idle, moved, step-does}

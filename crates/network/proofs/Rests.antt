@@ -7,7 +7,6 @@ use mathlib.Core.List.{List}
 use native.Mathlib.Decide.{ℕ-discrete}
 use native.Mathlib.Omega.{arith}
 use lib.ListN.{length, getD}
-use lib.Dec.{eqb, ltb, leb}
 use borrow.Author.Tests.{eqb-true, leb-true, ne-eqb, lt-ltb, le-ltb}
 use Rattle.lists.proofs.Tests.{by-cases}
 use Rattle.machine.proofs.Lists.{clash}

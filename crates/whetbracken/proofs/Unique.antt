@@ -1,7 +1,7 @@
 -- Only one result and one content of the lent memory keep each promise: document 01, "How tightly the statements bind". And the six
 -- numbers tell each answer from every other.
 use Prim.Native.Nat.{ℕ, _≤_}
-use mathlib.Core.Path.{_≡_, refl, sym, _∙_, ap}
+use mathlib.Core.Path.{_≡_, sym, _∙_, ap}
 use mathlib.Core.List.{List}
 use native.Mathlib.Omega.{arith}
 use Rattle.trace.specs.Answers.{numberOf}
@@ -13,6 +13,8 @@ use Rattle.model.specs.declared.Answer.{Answer}
 use Rattle.model.specs.declared.Answer.the-variants.{Accepted, Refused, NoRoom}
 use Rattle.model.proofs.Unique.{says-injective}
 use Rattle.whetbracken.proofs.Answers.{numbers-said, memory-left}
+use Rattle.report.specs.declared.Written.{Written}
+use Rattle.report.proofs.Unique.{only-one as only-one-written}
 use Rattle.whetbracken.specs.Interface.{numbers, Answered, Wrote}
 use Rattle.whetbracken.specs.declared.Numbers.{Numbers}
 
@@ -20,7 +22,9 @@ pub only-one : (trace : List ℕ) (before : Lent) (r r′ : Numbers) (m m′ : L
 only-one trace before r r′ m m′ p p′ = (numbers-said p ∙ sym (numbers-said p′), memory-left p ∙ sym (memory-left p′))
 
 pub only-one-report : (trace before : List ℕ) (n n′ : ℕ) (after after′ : List ℕ) → Wrote trace before n after → Wrote trace before n′ after′ → (n ≡ n′) × (after ≡ after′)
-only-one-report trace before n n′ after after′ p p′ = (p .len-is ∙ sym (p′ .len-is), p .text-is ∙ sym (p′ .text-is))
+only-one-report trace before n n′ after after′ p p′ =
+    let z = only-one-written trace before (p .written) (p′ .written) after after′ (p .reported) (p′ .reported) in
+    (p .len-is ∙ ap (λ (w : Written). w .len) (z .0) ∙ sym (p′ .len-is), z .1)
 
 -- ---- no refusal has number 0
 abbrev Numbered : Said → Type 0

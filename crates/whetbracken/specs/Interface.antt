@@ -2,14 +2,11 @@
 use Prim.Native.Nat.{ℕ}
 use mathlib.Core.Path.{_≡_}
 use mathlib.Core.List.{List}
-use lib.ListN.{length}
-use lib.Dec.{leb}
-use Rattle.lists.specs.Choice.{choose}
-use Rattle.text.specs.Written.{reportRoom}
-use Rattle.model.specs.Result.{Lent, over}
+use Rattle.model.specs.Result.{Lent}
 use Rattle.model.specs.Promise.{Said, refused, counted, says, Promised}
 use Rattle.model.specs.declared.Answer.{Answer}
-use Rattle.model.specs.Report.{report}
+use Rattle.report.specs.Written.{Reported}
+use Rattle.report.specs.declared.Written.{Written}
 use Rattle.whetbracken.specs.declared.Numbers.{Numbers}
 
 -- "The answer is the number and the offset"; "Also returned: order length, module accesses .., merges, rounds". No refusal has number
@@ -24,7 +21,8 @@ pub record Answered (trace : List ℕ) (before : Lent) (r : Numbers) (after : Le
   pub numbers-are : r ≡ numbers (says answer)
   pub promised : Promised trace before answer after
 
--- the report at the start of a buffer that has room for every report, and its length; a smaller buffer stays as it is, and the length is 0
+-- the length of what keeps the promise of `report`: 0 where the buffer has no room for every report, and then it stays
 pub record Wrote (trace before : List ℕ) (len : ℕ) (after : List ℕ) : Type 0 where
-  pub len-is : len ≡ choose (leb reportRoom (length before)) (length (report trace)) 0
-  pub text-is : after ≡ choose (leb reportRoom (length before)) (over (report trace) before) before
+  pub written : Written
+  pub len-is : len ≡ written .len
+  pub reported : Reported trace before written after
