@@ -25,4 +25,4 @@ pub mod Moments
 pub mod StepCounts
 pub mod Rest
 pub mod Demand3
-pub mod Document01
+pub mod Omega

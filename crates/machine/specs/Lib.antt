@@ -7,4 +7,4 @@ pub mod Single
 pub mod Lawful
 pub mod Order
 pub mod Sound
-pub mod Document01
+pub mod Omega

@@ -1,5 +1,5 @@
 -- What the machine is built over: words and operations, a path for each request, the rooms, and the requests of a trace.
--- Every definition and every theorem of this crate holds for any such setup; Document01.antt gives document 01's.
+-- Every definition and every theorem of this crate holds for any such setup; Omega.antt gives document 01's.
 use Prim.Native.Nat.{ℕ}
 use mathlib.Core.Option.{Option}
 

@@ -25,3 +25,7 @@ nextBit k m s = m / 2 ^ (k - suc s) % 2
 unfoldable pub shuffled : ℕ → ℕ → ℕ → ℕ → ℕ
 shuffled k e m zero = e
 shuffled k e m (suc s) = replaced (rotated k (shuffled k e m s)) (nextBit k m s)
+
+-- The positions of a path in one word, four bits for each level, level 0 the lowest: the position at a level
+unfoldable pub positionOn : ℕ → ℕ → ℕ
+positionOn path s = path / 2 ^ (s * 4) % 2 ^ 4

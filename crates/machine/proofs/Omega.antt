@@ -12,7 +12,7 @@ use Rattle.wiring.specs.Wiring.{position, moduleOf}
 use Rattle.wiring.proofs.Laws.{module-below, position-below, position-engine, position-onward}
 use Rattle.machine.specs.Setup.{Setup}
 use Rattle.machine.specs.Lawful.{Lawful}
-use Rattle.machine.specs.Document01.{omega01, oneOf}
+use Rattle.machine.specs.Omega.{omegaNetwork, oneOf}
 
 merge-one : (f g h : Operation) → oneOf (merged f g) ≡ some h → (x : ℕ) → applied h x ≡ applied g (applied f x)
 merge-one f g h e = go (merged f g) refl e
@@ -21,9 +21,9 @@ merge-one f g h e = go (merged f g) refl e
     go (One o) q e = let z : o ≡ h = cc in merge-applies f g h (subst (λ (o : Operation). merged f g ≡ One o) z q)
     go Never q e = let z : _≡_ {A = ℕ} 0 1 = cc in absurd (omega arith)
 
-pub lawful01 : (k Q W R : ℕ) (engineOf addressOf : ℕ → ℕ) (operationOf : ℕ → Operation) → 0 < k → 0 < Q → ((t : ℕ) → engineOf t < 2 ^ k)
-    → Lawful (omega01 k Q W R engineOf addressOf operationOf)
-lawful01 k Q W R engineOf addressOf operationOf levels room engines = record {
+pub omega-lawful : (k Q W R : ℕ) (engineOf addressOf : ℕ → ℕ) (operationOf : ℕ → Operation) → 0 < k → 0 < Q → ((t : ℕ) → engineOf t < 2 ^ k)
+    → Lawful (omegaNetwork k Q W R engineOf addressOf operationOf)
+omega-lawful k Q W R engineOf addressOf operationOf levels room engines = record {
   merge-applies = merge-one;
   place-engine = λ t. position-engine k (engineOf t) (moduleOf k (addressOf t)) (engines t) (module-below k (addressOf t));
   position-onward = λ e e′ a s. position-onward k e e′ (moduleOf k a) s;

@@ -15,8 +15,8 @@ oneOf Never = none
 
 -- k, the rooms Q and W, the number R of requests, and of each tag its engine, address and operation; "256 words of 64 bits",
 -- "N = 2^k", "Word a belongs to module a mod N"
-abbrev pub omega01 : (k Q W R : ℕ) → (ℕ → ℕ) → (ℕ → ℕ) → (ℕ → Operation) → Setup
-omega01 k Q W R engineOf addressOf operationOf = record {
+abbrev pub omegaNetwork : (k Q W R : ℕ) → (ℕ → ℕ) → (ℕ → ℕ) → (ℕ → Operation) → Setup
+omegaNetwork k Q W R engineOf addressOf operationOf = record {
   Word = ℕ;
   Operation = Operation;
   apply = applied;

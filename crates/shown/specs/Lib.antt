@@ -1,0 +1,4 @@
+pub mod Network
+pub mod Shown
+pub mod Landing
+pub mod Reached

@@ -1,0 +1,1 @@
+// Definitions and laws alone: specs/ and proofs/.

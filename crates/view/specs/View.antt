@@ -1,0 +1,189 @@
+-- What the machine in code holds, by name, and each change that the code makes to it. Nothing here says how it is kept: `store` does.
+use Prim.Native.Nat.{ℕ, suc}
+use mathlib.Core.Bool.{Bool, true}
+use mathlib.Core.List.{List, [], _∷_, _++_}
+use Rattle.lists.specs.Table.{update, update2}
+use Rattle.operation.specs.declared.Words.{Words}
+
+-- "A wait record holds the first tag, the second tag": its operation is the one that the second tag carries
+pub record Pair : Type 0 where
+  pub first : ℕ
+  pub second : ℕ
+
+-- What no step changes: the shape, the number of requests and a mark for each of them; of each tag its address, the path of its
+-- request, and the engine's next request (or the number of requests).
+pub record Fixed : Type 0 where
+  pub k : ℕ
+  pub q : ℕ
+  pub w : ℕ
+  pub count : ℕ
+  pub every : ℕ → Bool
+  pub address : ℕ → ℕ
+  pub path : ℕ → ℕ
+  pub after : ℕ → ℕ
+
+-- Queues and wait buffers are by level and position, oldest first; at level 0 a request queue has the engine's next unissued request
+-- alone. A request is in one place at a time, so what a message, a wait record, a reply or an answer carries stands by tag: the
+-- operation's code and operands, or the value as the first of them.
+pub record View : Type 0 where
+  pub fixed : Fixed
+  pub carried : ℕ → Words
+  pub answered : ℕ → Bool
+  pub requests : ℕ → ℕ → List ℕ
+  pub replies : ℕ → ℕ → List ℕ
+  pub waits : ℕ → ℕ → List Pair
+  pub order : List ℕ
+  pub accesses : ℕ
+  pub merges : ℕ
+  pub rounds : ℕ
+
+-- ---- the changes
+-- another shape, or other requests
+abbrev pub withFixed : View → Fixed → View
+withFixed v f = record {
+  fixed = f;
+  carried = v .carried;
+  answered = v .answered;
+  requests = v .requests;
+  replies = v .replies;
+  waits = v .waits;
+  order = v .order;
+  accesses = v .accesses;
+  merges = v .merges;
+  rounds = v .rounds;
+}
+
+-- what the tag t carries
+abbrev pub withCarried : View → ℕ → Words → View
+withCarried v t x = record {
+  fixed = v .fixed;
+  carried = update (v .carried) t x;
+  answered = v .answered;
+  requests = v .requests;
+  replies = v .replies;
+  waits = v .waits;
+  order = v .order;
+  accesses = v .accesses;
+  merges = v .merges;
+  rounds = v .rounds;
+}
+
+-- the request t is answered, with the value that it carries
+abbrev pub withAnswer : View → ℕ → View
+withAnswer v t = record {
+  fixed = v .fixed;
+  carried = v .carried;
+  answered = update (v .answered) t true;
+  requests = v .requests;
+  replies = v .replies;
+  waits = v .waits;
+  order = v .order;
+  accesses = v .accesses;
+  merges = v .merges;
+  rounds = v .rounds;
+}
+
+-- a request queue
+abbrev pub withRequests : View → ℕ → ℕ → List ℕ → View
+withRequests v s p l = record {
+  fixed = v .fixed;
+  carried = v .carried;
+  answered = v .answered;
+  requests = update2 (v .requests) s p l;
+  replies = v .replies;
+  waits = v .waits;
+  order = v .order;
+  accesses = v .accesses;
+  merges = v .merges;
+  rounds = v .rounds;
+}
+
+-- a reply queue
+abbrev pub withReplies : View → ℕ → ℕ → List ℕ → View
+withReplies v s p l = record {
+  fixed = v .fixed;
+  carried = v .carried;
+  answered = v .answered;
+  requests = v .requests;
+  replies = update2 (v .replies) s p l;
+  waits = v .waits;
+  order = v .order;
+  accesses = v .accesses;
+  merges = v .merges;
+  rounds = v .rounds;
+}
+
+-- a wait buffer
+abbrev pub withWaits : View → ℕ → ℕ → List Pair → View
+withWaits v s p l = record {
+  fixed = v .fixed;
+  carried = v .carried;
+  answered = v .answered;
+  requests = v .requests;
+  replies = v .replies;
+  waits = update2 (v .waits) s p l;
+  order = v .order;
+  accesses = v .accesses;
+  merges = v .merges;
+  rounds = v .rounds;
+}
+
+-- the order list, longer by l
+abbrev pub withOrder : View → List ℕ → View
+withOrder v l = record {
+  fixed = v .fixed;
+  carried = v .carried;
+  answered = v .answered;
+  requests = v .requests;
+  replies = v .replies;
+  waits = v .waits;
+  order = v .order ++ l;
+  accesses = v .accesses;
+  merges = v .merges;
+  rounds = v .rounds;
+}
+
+-- one module access more
+abbrev pub withAccess : View → View
+withAccess v = record {
+  fixed = v .fixed;
+  carried = v .carried;
+  answered = v .answered;
+  requests = v .requests;
+  replies = v .replies;
+  waits = v .waits;
+  order = v .order;
+  accesses = suc (v .accesses);
+  merges = v .merges;
+  rounds = v .rounds;
+}
+
+-- one merge more
+abbrev pub withMerge : View → View
+withMerge v = record {
+  fixed = v .fixed;
+  carried = v .carried;
+  answered = v .answered;
+  requests = v .requests;
+  replies = v .replies;
+  waits = v .waits;
+  order = v .order;
+  accesses = v .accesses;
+  merges = suc (v .merges);
+  rounds = v .rounds;
+}
+
+-- one round more
+abbrev pub withRound : View → View
+withRound v = record {
+  fixed = v .fixed;
+  carried = v .carried;
+  answered = v .answered;
+  requests = v .requests;
+  replies = v .replies;
+  waits = v .waits;
+  order = v .order;
+  accesses = v .accesses;
+  merges = v .merges;
+  rounds = suc (v .rounds);
+}

@@ -1,0 +1,123 @@
+// Small numbers side by side in one word: lengths of four bits, tags of a byte, marks of one bit.
+ghost use mathlib.Core.Path.{_≡_};
+ghost use Prim.Native.Nat.{suc, _-_, _≤_, _<_};
+ghost use lib.Dec.{eqb, ltb};
+ghost use Rattle.lists.specs.Choice.{choose};
+ghost use Rattle.lists.specs.Table.{update};
+ghost use Rattle.words.specs.Digits.{lengthIn, byteIn, bitIn, NextBusy, PlaceOf, Pushed, Without, LowBits};
+
+// ---- sixteen lengths
+
+pub fn length_in(row: u64, p: usize) -> usize
+    requires { ⌜ p < 16 ⌝ }
+    ensures { λ r. ⌜ (r ≡ lengthIn row p) × (r < 16) ⌝ }
+{
+    ((row >> (p * 4)) % 16) as usize
+}
+
+pub fn with_length(row: u64, p: usize, n: usize) -> u64
+    requires { ⌜ (p < 16) × (n < 16) ⌝ }
+    ensures { λ r. ⌜ lengthIn r ≡ update (lengthIn row) p n ⌝ }
+{
+    let s = p * 4;
+    row - (((row >> s) % 16) << s) + ((n as u64) << s)
+}
+
+pub fn one_more(row: u64, p: usize) -> u64
+    requires { ⌜ (p < 16) × (lengthIn row p < 15) ⌝ }
+    ensures { λ r. ⌜ lengthIn r ≡ update (lengthIn row) p (suc (lengthIn row p)) ⌝ }
+{
+    row + (1u64 << (p * 4))
+}
+
+pub fn one_less(row: u64, p: usize) -> u64
+    requires { ⌜ (p < 16) × (0 < lengthIn row p) ⌝ }
+    ensures { λ r. ⌜ lengthIn r ≡ update (lengthIn row) p (lengthIn row p - 1) ⌝ }
+{
+    row - (1u64 << (p * 4))
+}
+
+// The first place from `from` on whose length is not 0: a length below it would have a bit that is not 0.
+pub fn next_busy(row: u64, from: usize) -> usize
+    requires { ⌜ from < 16 ⌝ }
+    ensures { λ r. ⌜ NextBusy row from r ⌝ }
+{
+    let s = from * 4;
+    (u64::trailing_zeros((row >> s) << s) / 4) as usize
+}
+
+// ---- eight bytes
+
+// Two shifts, each by less than a word, for a place that need not be one of the eight.
+pub fn byte_at(w: u64, i: usize) -> u8
+    requires { ⌜ i < 16 ⌝ }
+    ensures { λ r. ⌜ r ≡ byteIn w i ⌝ }
+{
+    let half = i * 4;
+    (((w >> half) >> half) % 256) as u8
+}
+
+pub fn with_byte(w: u64, i: usize, b: u8) -> u64
+    requires { ⌜ i < 8 ⌝ }
+    ensures { λ r. ⌜ byteIn r ≡ update (byteIn w) i b ⌝ }
+{
+    let s = i * 8;
+    w - (((w >> s) % 256) << s) + ((b as u64) << s)
+}
+
+// One byte more, below all others.
+pub fn with_lowest(w: u64, b: u8) -> u64
+    ensures { λ r. ⌜ Pushed w b r ⌝ }
+{
+    (w << 8) + b as u64
+}
+
+// The byte at a place goes, and those above it move down.
+pub fn without_byte(w: u64, i: usize) -> u64
+    requires { ⌜ i < 8 ⌝ }
+    ensures { λ r. ⌜ Without w i r ⌝ }
+{
+    let s = i * 8;
+    (((w >> s) >> 8) << s) + w % (1u64 << s)
+}
+
+const ONES: u64 = 0x0101010101010101;
+
+const HIGHS: u64 = 0x8080808080808080;
+
+// The lowest place of a byte, or 8 where it is nowhere. x has zero bytes where w has the byte; of `zeros` the lowest bit that is not 0
+// is the high bit of the lowest of them.
+pub fn place_of(w: u64, b: u8) -> usize
+    ensures { λ r. ⌜ PlaceOf 8 w b r ⌝ }
+{
+    let x = w ^ (b as u64 * ONES);
+    let zeros = std::num::wrapping_sub_u64(x, ONES) & !x & HIGHS;
+    u64::trailing_zeros(zeros) as usize / 8
+}
+
+// ---- 64 marks
+
+pub fn is_marked(w: u64, i: usize) -> bool
+    requires { ⌜ i < 64 ⌝ }
+    ensures { λ r. ⌜ r ≡ eqb (bitIn w i) 1 ⌝ }
+{
+    (w >> i) % 2 == 1
+}
+
+pub fn with_mark(w: u64, i: usize) -> u64
+    requires { ⌜ i < 64 ⌝ }
+    ensures { λ r. ⌜ bitIn r ≡ update (bitIn w) i 1 ⌝ }
+{
+    w - (((w >> i) % 2) << i) + (1u64 << i)
+}
+
+// Marks at the lowest n places.
+pub fn low_marks(n: usize) -> u64
+    requires { ⌜ n ≤ 64 ⌝ }
+    ensures { λ r. ⌜ LowBits n r ⌝ }
+{
+    if n == 64 {
+        return 18446744073709551615;
+    }
+    (1u64 << n) - 1
+}
