@@ -1,7 +1,8 @@
 -- What the machine in code holds, by name, and each change that the code makes to it. Nothing here says how it is kept: `store` does.
 use Prim.Native.Nat.{ℕ, suc}
-use mathlib.Core.Bool.{Bool, true}
+use mathlib.Core.Bool.{Bool, true, false}
 use mathlib.Core.List.{List, [], _∷_, _++_}
+use lib.Dec.{ltb}
 use Rattle.lists.specs.Table.{update, update2}
 use Rattle.operation.specs.declared.Words.{Words}
 
@@ -186,4 +187,76 @@ withRound v = record {
   accesses = v .accesses;
   merges = v .merges;
   rounds = suc (v .rounds);
+}
+
+-- the shape and the number of requests
+abbrev pub shaped : Fixed → ℕ → ℕ → ℕ → ℕ → Fixed
+shaped f k q w count = record {
+  k = k;
+  q = q;
+  w = w;
+  count = count;
+  every = λ t. ltb t count;
+  address = f .address;
+  path = f .path;
+  after = f .after;
+}
+
+-- the engine's next request after t
+abbrev pub linked : Fixed → ℕ → ℕ → Fixed
+linked f t n = record {
+  k = f .k;
+  q = f .q;
+  w = f .w;
+  count = f .count;
+  every = f .every;
+  address = f .address;
+  path = f .path;
+  after = update (f .after) t n;
+}
+
+-- the request t as it is loaded: its address and path, with none after it yet
+abbrev pub placed : Fixed → ℕ → ℕ → ℕ → Fixed
+placed f t address path = record {
+  k = f .k;
+  q = f .q;
+  w = f .w;
+  count = f .count;
+  every = f .every;
+  address = update (f .address) t address;
+  path = update (f .path) t path;
+  after = update (f .after) t 0;
+}
+
+abbrev pub withRequest : View → ℕ → ℕ → ℕ → Words → View
+withRequest v t address path x = withCarried (withFixed v (placed (v .fixed) t address path)) t x
+
+-- ---- where nothing is loaded
+abbrev pub noWords : Words
+noWords = record { code = 0; first = 0; second = 0 }
+
+abbrev pub unfixed : Fixed
+unfixed = record {
+  k = 0;
+  q = 0;
+  w = 0;
+  count = 0;
+  every = λ t. false;
+  address = λ t. 0;
+  path = λ t. 0;
+  after = λ t. 0;
+}
+
+abbrev pub blank : View
+blank = record {
+  fixed = unfixed;
+  carried = λ t. noWords;
+  answered = λ t. false;
+  requests = λ s p. [];
+  replies = λ s p. [];
+  waits = λ s p. [];
+  order = [];
+  accesses = 0;
+  merges = 0;
+  rounds = 0;
 }

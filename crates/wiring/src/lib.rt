@@ -1,7 +1,7 @@
 // The omega network's wiring: document 01, "Wiring and queues", after Lawrie, "Access and Alignment of Data in an Array Processor", 1975.
 ghost use mathlib.Core.Path.{_≡_};
 ghost use Prim.Native.Nat.{_*_, _/_, _^_, _≤_, _<_};
-ghost use Rattle.wiring.specs.Wiring.{position, moduleOf};
+ghost use Rattle.wiring.specs.Wiring.{position, moduleOf, positionOn, PathOf};
 
 // The position, at a level, of the path of an engine to a module.
 pub fn position(k: usize, engine: u64, to: u64, level: usize) -> usize
@@ -35,4 +35,27 @@ fn shifted_right(x: u64, places: usize) -> u64
     ensures { λ r. ⌜ (r ≡ x / 2 ^ places) × (r ≤ x) ⌝ }
 {
     x >> places
+}
+
+// The positions of an engine's path to the module of an address, one word: four bits for each of levels 0 to k, level 0 the lowest.
+pub fn path_of(k: usize, engine: u64, address: u64) -> u64
+    requires { ⌜ (k ≤ 4) × (engine < 2 ^ k) ⌝ }
+    ensures { λ r. ⌜ PathOf k engine (moduleOf k address) r ⌝ }
+{
+    let to = module_of(k, address);
+    let mut path = 0;
+    let mut left = k + 1;
+    while 0 < left {
+        left -= 1;
+        path = path * 16 + position(k, engine, to, left) as u64;
+    }
+    path
+}
+
+// The position of a path at a level.
+pub fn position_on(path: u64, level: usize) -> usize
+    requires { ⌜ level < 5 ⌝ }
+    ensures { λ r. ⌜ (r ≡ positionOn path level) × (r < 16) ⌝ }
+{
+    ((path >> (level * 4)) % 16) as usize
 }

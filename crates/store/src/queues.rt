@@ -1,0 +1,194 @@
+// Queues and wait buffers by level and position.
+use super::COUNT;
+use super::FIRSTS;
+use super::Machine;
+use super::REPLIES;
+use super::REPLY_LENGTHS;
+use super::REQUEST_LENGTHS;
+use super::REQUESTS;
+use super::SECONDS;
+use super::WAIT_LENGTHS;
+use queue::Pairs;
+use queue::Tags;
+ghost use mathlib.Core.Path.{_≡_};
+ghost use mathlib.Core.List.{[], _∷_, _++_};
+ghost use Prim.Native.Nat.{_≤_, _<_, _+_, _*_, min};
+ghost use lib.Dec.{ltb};
+ghost use lib.ListN.{length, getD, drop};
+ghost use Rattle.lists.specs.Choice.{choose};
+ghost use Rattle.view.specs.View.{withRequests, withReplies, withWaits};
+ghost use Rattle.queue.specs.Queue.{tagsOf, pairsOf, HeldTags, HeldPairs};
+ghost use Rattle.store.specs.Layout.{size};
+ghost use Rattle.store.specs.Memory.{view, Becomes, NextFull};
+
+// ---- how long they are
+
+pub fn request_count(m: &Machine, level: usize, position: usize) -> usize
+    requires { ⌜ (level < 5) × (position < 16) ⌝ }
+    ensures { λ r. ⌜ (r ≡ length (view (now (m .entry)) .requests level position)) × (r < 16) ⌝ }
+{
+    words::length_in(m[REQUEST_LENGTHS + level], position)
+}
+
+pub fn reply_count(m: &Machine, level: usize, position: usize) -> usize
+    requires { ⌜ (level < 5) × (position < 16) ⌝ }
+    ensures { λ r. ⌜ (r ≡ length (view (now (m .entry)) .replies level position)) × (r < 16) ⌝ }
+{
+    words::length_in(m[REPLY_LENGTHS + level], position)
+}
+
+pub fn wait_count(m: &Machine, level: usize, position: usize) -> usize
+    requires { ⌜ (level < 5) × (position < 16) ⌝ }
+    ensures { λ r. ⌜ (r ≡ length (view (now (m .entry)) .waits level position)) × (r ≤ 8) ⌝ }
+{
+    at_most_8(words::length_in(m[WAIT_LENGTHS + level], position))
+}
+
+fn at_most_8(n: usize) -> usize
+    ensures { λ r. ⌜ r ≡ min 8 n ⌝ }
+{
+    if n < 8 {
+        return n;
+    }
+    8
+}
+
+// The first position from `from` on that has a request, or 16.
+pub fn next_request(m: &Machine, level: usize, from: usize) -> usize
+    requires { ⌜ (level < 5) × (from < 16) ⌝ }
+    ensures { λ r. ⌜ NextFull (view (now (m .entry)) .requests level) from r ⌝ }
+{
+    words::next_busy(m[REQUEST_LENGTHS + level], from)
+}
+
+pub fn next_reply(m: &Machine, level: usize, from: usize) -> usize
+    requires { ⌜ (level < 5) × (from < 16) ⌝ }
+    ensures { λ r. ⌜ NextFull (view (now (m .entry)) .replies level) from r ⌝ }
+{
+    words::next_busy(m[REPLY_LENGTHS + level], from)
+}
+
+// ---- by value
+
+pub fn load_requests(m: &Machine, level: usize, position: usize) -> Tags
+    requires { ⌜ (level < 5) × (position < 16) ⌝ }
+    ensures { λ r. ⌜ (tagsOf r ≡ view (now (m .entry)) .requests level position) × HeldTags r ⌝ }
+{
+    Tags {
+        items: m[REQUESTS + (level * 16 + position)],
+        len: request_count(m, level, position),
+    }
+}
+
+pub fn load_replies(m: &Machine, level: usize, position: usize) -> Tags
+    requires { ⌜ (level < 5) × (position < 16) ⌝ }
+    ensures { λ r. ⌜ (tagsOf r ≡ view (now (m .entry)) .replies level position) × HeldTags r ⌝ }
+{
+    Tags {
+        items: m[REPLIES + (level * 16 + position)],
+        len: reply_count(m, level, position),
+    }
+}
+
+pub fn load_waits(m: &Machine, level: usize, position: usize) -> Pairs
+    requires { ⌜ (level < 5) × (position < 16) ⌝ }
+    ensures { λ r. ⌜ (pairsOf r ≡ view (now (m .entry)) .waits level position) × HeldPairs r ⌝ }
+{
+    let at = level * 16 + position;
+    Pairs {
+        firsts: m[FIRSTS + at],
+        seconds: m[SECONDS + at],
+        len: wait_count(m, level, position),
+    }
+}
+
+pub fn store_requests(m: &mut Machine, level: usize, position: usize, queue: Tags)
+    requires { ⌜ length (now m) ≡ size ⌝ }
+    requires { ⌜ (level < 5) × (position < 16) ⌝ }
+    requires { ⌜ HeldTags queue ⌝ }
+    ensures { λ _. ⌜ Becomes (now (m .exit)) (withRequests (view (now (m .entry))) level position (tagsOf queue)) ⌝ }
+{
+    m[REQUESTS + (level * 16 + position)] = queue.items;
+    let row = REQUEST_LENGTHS + level;
+    m[row] = words::with_length(m[row], position, queue.len);
+}
+
+pub fn store_waits(m: &mut Machine, level: usize, position: usize, waits: Pairs)
+    requires { ⌜ length (now m) ≡ size ⌝ }
+    requires { ⌜ (level < 5) × (position < 16) ⌝ }
+    requires { ⌜ HeldPairs waits ⌝ }
+    ensures { λ _. ⌜ Becomes (now (m .exit)) (withWaits (view (now (m .entry))) level position (pairsOf waits)) ⌝ }
+{
+    let at = level * 16 + position;
+    m[FIRSTS + at] = waits.firsts;
+    m[SECONDS + at] = waits.seconds;
+    let row = WAIT_LENGTHS + level;
+    m[row] = words::with_length(m[row], position, waits.len);
+}
+
+// ---- the oldest, and one more at the end
+
+pub fn oldest_request(m: &Machine, level: usize, position: usize) -> u8
+    requires { ⌜ (level < 5) × (position < 16) ⌝ }
+    requires { ⌜ 0 < length (view (now m) .requests level position) ⌝ }
+    ensures { λ r. ⌜ r ≡ getD (view (now (m .entry)) .requests level position) 0 0 ⌝ }
+{
+    load_requests(m, level, position).oldest()
+}
+
+pub fn oldest_reply(m: &Machine, level: usize, position: usize) -> u8
+    requires { ⌜ (level < 5) × (position < 16) ⌝ }
+    requires { ⌜ 0 < length (view (now m) .replies level position) ⌝ }
+    ensures { λ r. ⌜ r ≡ getD (view (now (m .entry)) .replies level position) 0 0 ⌝ }
+{
+    load_replies(m, level, position).oldest()
+}
+
+// The oldest goes with the length alone.
+pub fn pop_request(m: &mut Machine, level: usize, position: usize)
+    requires { ⌜ length (now m) ≡ size ⌝ }
+    requires { ⌜ (level < 5) × (position < 16) ⌝ }
+    requires { ⌜ 0 < length (view (now m) .requests level position) ⌝ }
+    ensures { λ _. ⌜ Becomes (now (m .exit)) (withRequests (view (now (m .entry))) level position (drop 1 (view (now (m .entry)) .requests level position))) ⌝ }
+{
+    let row = REQUEST_LENGTHS + level;
+    m[row] = words::one_less(m[row], position);
+}
+
+pub fn pop_reply(m: &mut Machine, level: usize, position: usize)
+    requires { ⌜ length (now m) ≡ size ⌝ }
+    requires { ⌜ (level < 5) × (position < 16) ⌝ }
+    requires { ⌜ 0 < length (view (now m) .replies level position) ⌝ }
+    ensures { λ _. ⌜ Becomes (now (m .exit)) (withReplies (view (now (m .entry))) level position (drop 1 (view (now (m .entry)) .replies level position))) ⌝ }
+{
+    let row = REPLY_LENGTHS + level;
+    m[row] = words::one_less(m[row], position);
+}
+
+pub fn push_reply(m: &mut Machine, level: usize, position: usize, t: u8)
+    requires { ⌜ length (now m) ≡ size ⌝ }
+    requires { ⌜ (level < 5) × (position < 16) ⌝ }
+    requires { ⌜ length (view (now m) .replies level position) < 8 ⌝ }
+    ensures { λ _. ⌜ Becomes (now (m .exit)) (withReplies (view (now (m .entry))) level position (view (now (m .entry)) .replies level position ++ (t ∷ []))) ⌝ }
+{
+    let at = REPLIES + (level * 16 + position);
+    m[at] = words::with_lowest(m[at], t);
+    let row = REPLY_LENGTHS + level;
+    m[row] = words::one_more(m[row], position);
+}
+
+// The next request of engine e: n where there is such a request, else none.
+pub fn set_next(m: &mut Machine, e: usize, n: usize)
+    requires { ⌜ length (now m) ≡ size ⌝ }
+    requires { ⌜ e < 16 ⌝ }
+    requires { ⌜ view (now m) .fixed .count ≤ 256 ⌝ }
+    ensures { λ _. ⌜ Becomes (now (m .exit)) (withRequests (view (now (m .entry))) 0 e (choose (ltb n (view (now (m .entry)) .fixed .count)) (n ∷ []) [])) ⌝ }
+{
+    let row = m[REQUEST_LENGTHS];
+    if n < m[COUNT] as usize {
+        m[REQUESTS + e] = n as u64;
+        m[REQUEST_LENGTHS] = words::with_length(row, e, 1);
+        return;
+    }
+    m[REQUEST_LENGTHS] = words::with_length(row, e, 0);
+}
