@@ -1,8 +1,7 @@
 // Small numbers side by side in one word: lengths of four bits, tags of a byte, marks of one bit.
 ghost use mathlib.Core.Path.{_≡_};
 ghost use Prim.Native.Nat.{suc, _-_, _≤_, _<_};
-ghost use lib.Dec.{eqb, ltb};
-ghost use Rattle.lists.specs.Choice.{choose};
+ghost use lib.Dec.{eqb};
 ghost use Rattle.lists.specs.Table.{update};
 ghost use Rattle.words.specs.Digits.{lengthIn, byteIn, bitIn, NextBusy, PlaceOf, Pushed, Without, LowBits};
 

@@ -1,0 +1,100 @@
+-- Digits as the code writes them: w is a word of 64 bits, p one of its k places.
+use Prim.Native.Nat.{ℕ, suc, _+_, _-_, _*_, _/_, _%_, _^_, _≤_, _<_}
+use mathlib.Core.Path.{_≡_, sym, ap, _∙_}
+use native.Mathlib.Nat.{suc-mul, mul-comm, mul-le-mul-right, le-trans, le-of-eq, mod-le, mod-lt, mod-eq-of-lt, div-mul-le-self, div-div-eq-div-mul}
+use native.Mathlib.Omega.{arith}
+use lib.Pow.{pow-pos, pow-mono, shl-exact, shr-shr}
+use Rattle.lists.specs.Table.{update}
+use Rattle.words.specs.Digits.{digit, byteIn, Pushed, Without}
+use Rattle.words.proofs.Digits.{place, Replaced, replaced, replaced-fits, digit-lt, digit-le, digit-pushed, digit-moved, below-low, without, without-low, without-high}
+
+pub one-shifted : (n : ℕ) → n < 64 → (1 * 2 ^ n) % 2 ^ 64 ≡ 2 ^ n
+one-shifted n l = rw (shl-exact {a = 1} 1 n 64 (omega arith) (omega arith)) (omega arith)
+
+pub one-pos : (n : ℕ) → n < 64 → 0 < (1 * 2 ^ n) % 2 ^ 64
+one-pos n l = rw (one-shifted n l) (pow-pos n)
+
+module _ (bits k w p : ℕ) (e : k * bits ≡ 64) (a : p < k) (f : w < 2 ^ 64) where
+  shifted : (d : ℕ) → d < 2 ^ bits → (d * place bits p) % 2 ^ 64 ≡ d * place bits p
+  shifted d l = shl-exact bits (p * bits) 64 l (omega (arith, suc-mul p bits, mul-le-mul-right bits a))
+
+  fits : (n r : ℕ) → n < 2 ^ bits → Replaced bits w p n r → r < 2 ^ 64
+  fits n r l h = rw e at (replaced-fits bits k w p n r a l (rw e f) h)
+
+  pub taken : (digit bits w p * place bits p) % 2 ^ 64 ≤ w
+  taken = le-trans (mod-le (digit bits w p * place bits p) (2 ^ 64)) (digit-le bits w p)
+
+  module _ (n : ℕ) (l : n < 2 ^ bits) where
+    abbrev written : ℕ
+    written = w - (digit bits w p * place bits p) % 2 ^ 64 + (n * place bits p) % 2 ^ 64
+
+    written-is : Replaced bits w p n written
+    written-is = rw (shifted (digit bits w p) (digit-lt bits w p), shifted n l) (omega (arith, digit-le bits w p))
+
+    pub written-fits : written < 2 ^ 64
+    written-fits = fits n written l written-is
+
+    pub written-digits : digit bits written ≡ update (digit bits w) p n
+    written-digits = replaced bits w p n written l written-is
+
+  module _ (l : suc (digit bits w p) < 2 ^ bits) where
+    abbrev more : ℕ
+    more = w + (1 * place bits p) % 2 ^ 64
+
+    more-is : Replaced bits w p (suc (digit bits w p)) more
+    more-is = rw (shifted 1 (omega arith), suc-mul (digit bits w p) (place bits p)) (omega arith)
+
+    pub more-fits : more < 2 ^ 64
+    more-fits = fits (suc (digit bits w p)) more l more-is
+
+    pub more-digits : digit bits more ≡ update (digit bits w) p (suc (digit bits w p))
+    more-digits = replaced bits w p (suc (digit bits w p)) more l more-is
+
+  module _ (l : 0 < digit bits w p) where
+    one : (1 * place bits p) % 2 ^ 64 ≡ 1 * place bits p
+    one = shifted 1 (omega (arith, digit-lt bits w p))
+
+    pub less-within : (1 * place bits p) % 2 ^ 64 ≤ w
+    less-within = rw one (le-trans (mul-le-mul-right (place bits p) l) (digit-le bits w p))
+
+    pub less-digits : digit bits (w - (1 * place bits p) % 2 ^ 64) ≡ update (digit bits w) p (digit bits w p - 1)
+    less-digits =
+        let b : 1 * place bits p ≤ w = rw one at less-within in
+        let s : digit bits w p ≡ suc (digit bits w p - 1) = omega arith in
+        let m : digit bits w p * place bits p ≡ (digit bits w p - 1) * place bits p + place bits p =
+        ap (λ (x : ℕ). x * place bits p) s ∙ suc-mul (digit bits w p - 1) (place bits p) in
+        replaced bits w p (digit bits w p - 1) (w - (1 * place bits p) % 2 ^ 64) (omega (arith, digit-lt bits w p)) (rw one (omega arith))
+
+-- ---- bytes
+
+-- by two shifts, each of half as many bits
+pub byte-by-halves : (w i : ℕ) → w / 2 ^ (i * 4) / 2 ^ (i * 4) % 256 ≡ byteIn w i
+unfolding digit
+byte-by-halves w i = let s : i * 4 + i * 4 ≡ i * 8 = omega arith in rw (shr-shr, s)
+
+pub pushed : (w b : ℕ) → b < 256 → Pushed w b ((w * 2 ^ 8) % 2 ^ 64 + b)
+pushed w b l =
+    let e : (w * 2 ^ 8) % 2 ^ 64 ≡ w % 2 ^ 56 * 2 ^ 8 = omega arith in
+    rw e record { lowest = digit-pushed 8 (w % 2 ^ 56) b l; above = λ i g. digit-moved 8 (w % 2 ^ 56) b i l ∙ below-low 8 w 7 i g }
+
+module _ (w i : ℕ) (a : i < 8) (f : w < 2 ^ 64) where
+  abbrev removed : ℕ
+  removed = (w / place 8 i / 256 * place 8 i) % 2 ^ 64 + w % ((1 * place 8 i) % 2 ^ 64)
+
+  shift : (1 * place 8 i) % 2 ^ 64 ≡ place 8 i
+  shift = one-shifted (i * 8) (omega arith)
+
+  high-le : w / place 8 i / 256 * place 8 i ≤ w / 256
+  high-le =
+      le-trans (le-of-eq (ap (λ (x : ℕ). x * place 8 i) (div-div-eq-div-mul w (place 8 i) 256 ∙ ap (λ (x : ℕ). w / x) (mul-comm (place 8 i) 256) ∙ sym (div-div-eq-div-mul w 256 (place 8 i)))))
+      (div-mul-le-self (w / 256) (place 8 i))
+
+  removed-is : removed ≡ without 8 w i
+  removed-is = rw (shift, mod-eq-of-lt {n = w / place 8 i / 256 * place 8 i} {m = 2 ^ 64} (omega (arith, high-le)))
+
+  pub removed-fits : removed < 2 ^ 64
+  removed-fits =
+      rw shift (omega (arith, high-le, mod-le (w / place 8 i / 256 * place 8 i) (2 ^ 64), mod-lt w (pow-pos (i * 8)), pow-mono {i = i * 8} {j = 56} (omega arith)))
+
+  pub removed-without : Without w i removed
+  removed-without = rw removed-is record { below = without-low 8 w i; above = without-high 8 w i }
