@@ -1,100 +1,93 @@
--- What a node and the tables show of the machine: a tag's message, wait record and reply, and the lists of them.
-use Prim.Native.Nat.{ℕ, suc, _≤_}
+-- A node in hand, and what an arrival at it promises: document 01, "Wiring and queues".
+use Prim.Native.Nat.{ℕ, suc, _+_, _-_}
 use mathlib.Core.Path.{_≡_}
-use mathlib.Core.Bool.{Bool}
-use mathlib.Core.List.{List, map}
-use lib.ListN.{length, getD, take, drop}
+use mathlib.Core.Logic.{_≢_}
+use mathlib.Core.List.{List, _∷_, _++_, map}
 use lib.Dec.{eqb}
-use Rattle.lists.specs.Search.{Found, absent, found, firstOf, lastOf}
-use Rattle.machine.specs.Setup.{Message, WaitRecord, Reply}
-use Rattle.machine.specs.Arrival.{Arrival, merged, appended, refused}
-use Rattle.machine.specs.Arrival as arrival
-use Rattle.node.specs.Tables.{addressIn, operationIn, valueIn}
-use Rattle.node.specs.Omega.{network}
-use Rattle.node.specs.declared.Tags.{Tags}
-use Rattle.node.specs.declared.Pair.{Pair}
-use Rattle.node.specs.declared.Pairs.{Pairs}
+use lib.ListN.{length}
+use Rattle.lists.specs.Table.{downFrom}
+use Rattle.lists.specs.Search.{Found, absent, found, lastOf}
+use Rattle.lists.specs.Count.{count, Distinct}
+use Rattle.operation.specs.declared.Words.{Words}
+use Rattle.machine.specs.Arrival as machine
+use Rattle.words.specs.Digits.{byteIn}
+use Rattle.view.specs.View.{Pair, View}
+use Rattle.shown.specs.Network.{Network, setup}
+use Rattle.shown.specs.Shown.{messageOf}
+use Rattle.shown.specs.Landing.{Came, cameMerged, cameAppended, cameRefused, nodeOf, arrivalOf}
+use Rattle.queue.specs.Queue.{tagsOf, pairsOf, HeldTags, HeldPairs}
+use Rattle.queue.specs.declared.Tags.{Tags}
+use Rattle.queue.specs.declared.Place.{Place}
+use Rattle.queue.specs.declared.Place.the-variants.{At, Nowhere}
+use Rattle.store.specs.Layout.{size}
+use Rattle.store.specs.Memory.{view}
 use Rattle.node.specs.declared.Node.{Node}
-use Rattle.node.specs.declared.Found as place
-use Rattle.node.specs.declared.Found.the-variants.{At, Nothing}
+use Rattle.node.specs.declared.Arrived.{Arrived}
 use Rattle.node.specs.declared.Outcome.{Outcome}
 use Rattle.node.specs.declared.Outcome.the-variants.{Merged, Appended, Refused}
-
--- ---- lists in arrays
--- an array of n places, of which the first len hold a list
-pub record Held {A : Type 0} (n : ℕ) (items : List A) (len : ℕ) : Type 0 where
-  pub room : len ≤ n
-  pub size : length items ≡ n
-
-abbrev pub HeldTags : Tags → Type 0
-HeldTags l = Held 4 (l .items) (l .len)
-
-abbrev pub HeldPairs : Pairs → Type 0
-HeldPairs l = Held 8 (l .items) (l .len)
 
 pub record HeldNode (n : Node) : Type 0 where
   pub queue : HeldTags (n .queue)
   pub waiting : HeldPairs (n .waiting)
 
-abbrev pub tagsOf : Tags → List ℕ
-tagsOf l = take (l .len) (l .items)
+-- the node that is in hand, as the machine's
+abbrev pub nodeIn : (x : Network) → View → Node → machine.Node (setup x)
+nodeIn x v n = nodeOf x v (tagsOf (n .queue)) (pairsOf (n .waiting))
 
-abbrev pub pairsOf : Pairs → List Pair
-pairsOf l = take (l .len) (l .items)
+abbrev pub cameOf : Outcome → Came
+cameOf Merged = cameMerged
+cameOf Appended = cameAppended
+cameOf Refused = cameRefused
 
--- what stands past an array's end
-abbrev pub noPair : Pair
-noPair = record { first = 0; second = 0 }
+-- the arriving request, those in the queue and the seconds of the wait buffer are as many requests
+abbrev pub Apart : ℕ → List ℕ → List Pair → Type 0
+Apart t tags pairs = Distinct (λ (u : ℕ). u) (t ∷ (tags ++ map (λ (r : Pair). r .second) pairs))
 
--- the element at a place, with those before it and those behind it
-abbrev pub foundAt : {A : Type 0} → A → List A → place.Found → Found A
-foundAt none l Nothing = absent
-foundAt none l (At i) = found (take i l) (getD l i none) (drop (suc i) l)
+-- ---- the youngest tag with an address
+unfoldable pub youngestTag : (ℕ → ℕ) → ℕ → List ℕ → Found ℕ
+youngestTag address a tags = lastOf (λ u. eqb (address u) a) tags
 
--- ---- searches by tag
--- "take the youngest message in the queue with the same address"
-abbrev pub hasAddress : List ℕ → ℕ → ℕ → Bool
-hasAddress requests a u = eqb (addressIn requests u) a
+-- the tag with i younger ones, with those before it and those behind it
+abbrev pub foundIn : Tags → Place → Found ℕ
+foundIn l Nowhere = absent
+foundIn l (At i) = found (downFrom (l .len - suc i) (λ j. byteIn (l .items) (suc i + j))) (byteIn (l .items) i) (downFrom i (byteIn (l .items)))
 
-unfoldable pub youngestTag : List ℕ → ℕ → List ℕ → Found ℕ
-youngestTag requests a tags = lastOf (hasAddress requests a) tags
+-- ---- the arrival
+-- the view with another table of what the tags carry
+abbrev pub carrying : View → (ℕ → Words) → View
+carrying v carried = record {
+  fixed = v .fixed;
+  carried = carried;
+  answered = v .answered;
+  requests = v .requests;
+  replies = v .replies;
+  waits = v .waits;
+  order = v .order;
+  accesses = v .accesses;
+  merges = v .merges;
+  rounds = v .rounds;
+}
 
--- "If the wait buffer here has records whose first tag is t, take the oldest of them"
-abbrev pub hasFirst : ℕ → Pair → Bool
-hasFirst t r = eqb (r .first) t
+-- "Otherwise append if the queue has room. Otherwise the step changes nothing."
+pub record AppendedTo (n : Node) (t q : ℕ) (r : Arrived) : Type 0 where
+  pub held : HeldNode (r .node)
+  pub appends : (x : Network) (v : View) → x .Q ≡ q →
+      machine.append (setup x) (nodeIn x v n) (messageOf x v t) ≡ arrivalOf x (cameOf (r .outcome)) (nodeIn x v (r .node))
+  pub unmerged : r .outcome ≢ Merged
+  pub waiting-stays : r .node .waiting ≡ n .waiting
+  pub refusal : r .outcome ≡ Refused → r .node ≡ n
 
-unfoldable pub oldestPair : ℕ → List Pair → Found Pair
-oldestPair t pairs = firstOf (hasFirst t) pairs
-
--- ---- what the machine sees
-module _ (k q w R : ℕ) (requests operations : List ℕ) where
-  -- "A request message holds a tag, an address and an operation"
-  abbrev pub messageIn : ℕ → Message (network k q w R requests)
-  messageIn t = record { tag = t; address = addressIn requests t; operation = operationIn operations t }
-
-  -- "A wait record holds the first tag, the second tag, and the first's operation as it was before that merge": with the second
-  abbrev pub recordIn : Pair → WaitRecord (network k q w R requests)
-  recordIn r = record { first = r .first; second = r .second; operation = operationIn operations (r .second) }
-
-  abbrev pub messagesIn : List ℕ → List (Message (network k q w R requests))
-  messagesIn tags = map messageIn tags
-
-  abbrev pub recordsIn : List Pair → List (WaitRecord (network k q w R requests))
-  recordsIn pairs = map recordIn pairs
-
-  abbrev pub nodeIn : Node → arrival.Node (network k q w R requests)
-  nodeIn n = record { queue = messagesIn (tagsOf (n .queue)); waiting = recordsIn (pairsOf (n .waiting)) }
-
-  -- what an arrival came to, and the node after it
-  abbrev pub arrivalIn : Outcome → Node → Arrival (network k q w R requests)
-  arrivalIn Merged n = merged (nodeIn n)
-  arrivalIn Appended n = appended (nodeIn n)
-  arrivalIn Refused n = refused
-
-module _ (k q w R : ℕ) (requests carried : List ℕ) where
-  -- "a reply holds a tag and a value"
-  abbrev pub replyIn : ℕ → Reply (network k q w R requests)
-  replyIn t = record { tag = t; value = valueIn carried t }
-
-  abbrev pub repliesIn : List ℕ → List (Reply (network k q w R requests))
-  repliesIn tags = map replyIn tags
+-- "A message arriving at a request queue": v is the view before it, m′ the machine after it
+pub record ArrivedAt (n : Node) (v : View) (t q w : ℕ) (m′ : List ℕ) (r : Arrived) : Type 0 where
+  pub sized : length m′ ≡ size
+  pub held : HeldNode (r .node)
+  pub arrives : (x : Network) → x .Q ≡ q → x .W ≡ w →
+      machine.arrive (setup x) (nodeIn x v n) (messageOf x v t) ≡ arrivalOf x (cameOf (r .outcome)) (nodeIn x (view m′) (r .node))
+  -- nothing of the machine changes but what tags carry; by a merge alone, and then of the arriving message and of one in the queue
+  pub changes : view m′ ≡ carrying v (view m′ .carried)
+  pub unmerged : r .outcome ≢ Merged → view m′ ≡ v
+  pub others : (u : ℕ) → u ≢ t → count (λ (w : ℕ). w) u (tagsOf (n .queue)) ≡ 0 → view m′ .carried u ≡ v .carried u
+  -- a merge leaves the queue's tags, an append the wait buffer, a refusal both
+  pub queue-stays : r .outcome ≡ Merged → r .node .queue ≡ n .queue
+  pub waiting-stays : r .outcome ≡ Appended → r .node .waiting ≡ n .waiting
+  pub refusal : r .outcome ≡ Refused → r .node ≡ n

@@ -10,7 +10,7 @@ use super::Q;
 use super::ROUNDS;
 use super::W;
 ghost use mathlib.Core.Path.{_≡_};
-ghost use Prim.Native.Nat.{_-_, _*_, _≤_, _<_, min};
+ghost use Prim.Native.Nat.{_-_, _*_, _≤_, _<_, _^_, min};
 ghost use lib.ListN.{length};
 ghost use Rattle.view.specs.View.{withFixed, withAccess, withMerge, withRound, shaped};
 ghost use Rattle.store.specs.Layout.{size};
@@ -111,7 +111,7 @@ pub fn add_merge(m: &mut Machine)
 
 pub fn add_round(m: &mut Machine)
     requires { ⌜ length (now m) ≡ size ⌝ }
-    requires { ⌜ view (now m) .rounds < 65536 ⌝ }
+    requires { ⌜ view (now m) .rounds < 2 ^ 33 ⌝ }
     ensures { λ _. ⌜ Becomes (now (m .exit)) (withRound (view (now (m .entry)))) ⌝ }
 {
     m[ROUNDS] = m[ROUNDS] + 1;

@@ -1,6 +1,7 @@
 -- The omega network's wiring: document 01, "Wiring and queues".
 use Prim.Native.Nat.{ℕ, zero, suc, _+_, _-_, _*_, _/_, _%_, _^_, _≤_, _<_}
 use mathlib.Core.Path.{_≡_}
+use Rattle.words.specs.Digits.{digit}
 
 -- "Word a belongs to module a mod N", N = 2^k
 unfoldable pub moduleOf : ℕ → ℕ → ℕ
@@ -28,8 +29,8 @@ shuffled k e m zero = e
 shuffled k e m (suc s) = replaced (rotated k (shuffled k e m s)) (nextBit k m s)
 
 -- The positions of a path in one word, four bits for each level, level 0 the lowest: the position at a level
-unfoldable pub positionOn : ℕ → ℕ → ℕ
-positionOn path s = path / 2 ^ (s * 4) % 2 ^ 4
+abbrev pub positionOn : ℕ → ℕ → ℕ
+positionOn = digit 4
 
 -- the path of engine e to module m in such a word
 pub record PathOf (k e m path : ℕ) : Type 0 where

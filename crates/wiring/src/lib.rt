@@ -59,3 +59,11 @@ pub fn position_on(path: u64, level: usize) -> usize
 {
     ((path >> (level * 4)) % 16) as usize
 }
+
+// N = 2^k: how many positions each level has.
+pub fn width(k: usize) -> usize
+    requires { ⌜ k ≤ 4 ⌝ }
+    ensures { λ r. ⌜ (r ≡ 2 ^ k) × (r ≤ 16) ⌝ }
+{
+    1usize << k
+}

@@ -1,0 +1,26 @@
+-- `queue::Pairs::push` meets its contract: both tags at the first place that is free.
+use native.Mathlib.Omega.{arith}
+use borrow.Author.Needs.{needs}
+use Rattle.queue.proofs.Laws.{pairs-push}
+use Rattle.queue.proofs.Pairs.push.Statement.{statement}
+use Rattle.queue.proofs.Pairs.push.Tie as tie
+
+with-byte-requires : tie.Need-with-byte-requires
+with-byte-requires c κs = search needs
+
+with-byte-requires-2 : tie.Need-with-byte-requires-2
+with-byte-requires-2 c κs = search needs
+
+add-self : tie.Need-add-self
+add-self c = search needs
+
+returns : tie.Need-returns
+returns c =
+    let s = c .before .before in
+    let l = s .args .self in
+    let firsts = c .before .with-byte in
+    let seconds = c .with-byte2 in
+    (pairs-push (l .firsts) (l .seconds) (l .len) (s .args .first) (s .args .second) (firsts .result) (seconds .result) (firsts .ensures) (seconds .ensures), omega arith)
+
+pub push-spec : {M : Type 1} → statement M
+push-spec = tie.close (tie.spec with-byte-requires with-byte-requires-2 add-self returns)

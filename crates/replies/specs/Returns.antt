@@ -1,0 +1,39 @@
+-- What becomes of a reply one level down, by the way it is taken: level s + 1 is where it stands.
+use Prim.Native.Nat.{ℕ, suc, _<_, _≤_}
+use mathlib.Core.Path.{_≡_}
+use mathlib.Core.Bool.{true, false}
+use mathlib.Core.List.{List, [], _∷_, _++_}
+use lib.Dec.{ltb}
+use lib.ListN.{length, getD, take, drop}
+use Rattle.lists.specs.Choice.{choose}
+use Rattle.operation.specs.Operation.{applied}
+use Rattle.wiring.specs.Wiring.{positionOn}
+use Rattle.view.specs.View.{Pair, View, withCarried, withReplies, withWaits}
+use Rattle.shown.specs.Shown.{operationIn, valued}
+use Rattle.queue.specs.Queue.{noPair}
+use Rattle.store.specs.Layout.{size}
+use Rattle.store.specs.Memory.{view}
+
+-- "t itself moves one level down. If the target queue is full nothing changes."
+pub record Lowered (v : View) (s p t : ℕ) (m′ : List ℕ) : Type 0 where
+  pub sized : length m′ ≡ size
+  pub lowered : view m′ ≡
+      choose (ltb (length (v .replies s (positionOn (v .fixed .path t) s))) (v .fixed .q))
+      (withReplies (withReplies v (suc s) p (drop 1 (v .replies (suc s) p))) s (positionOn (v .fixed .path t) s) (v .replies s (positionOn (v .fixed .path t) s) ++ (t ∷ [])))
+      v
+
+-- the view after the second tag u of a record is answered from t, with the records that are left
+abbrev pub answeredFrom : View → ℕ → ℕ → ℕ → ℕ → List Pair → View
+answeredFrom v s p t u left =
+    withWaits
+    (withReplies (withCarried v u (valued (v .carried u) (applied (operationIn (v .carried u)) (v .carried t .first))))
+    s (positionOn (v .fixed .path u) s) (v .replies s (positionOn (v .fixed .path u) s) ++ (u ∷ [])))
+    (suc s) p left
+
+-- "its second tag is answered ..; the record goes, t stays": the record at place i
+pub record SplitOff (v : View) (s p t : ℕ) (pairs : List Pair) (i : ℕ) (m′ : List ℕ) : Type 0 where
+  pub sized : length m′ ≡ size
+  pub split : view m′ ≡
+      choose (ltb (length (v .replies s (positionOn (v .fixed .path (getD pairs i noPair .second)) s))) (v .fixed .q))
+      (answeredFrom v s p t (getD pairs i noPair .second) (take i pairs ++ drop (suc i) pairs))
+      v

@@ -1,0 +1,159 @@
+// The drain round, row by row, and the drain: document 01, "Steps". A row takes its step at each position that has something to move when
+// its turn comes; between one such position and the next all queues are empty, and a step there changes nothing. Each kind of step has a
+// loop of its own, so that the step stands in it.
+use store::Machine;
+use store::answers;
+use store::queues;
+use store::shape;
+ghost use mathlib.Core.Path.{_≡_};
+ghost use Prim.Native.Nat.{_+_, _-_, _≤_, _<_, _^_};
+ghost use lib.ListN.{length};
+ghost use Rattle.machine.specs.Run.{row, rowsUp, rowsDown, round as roundEvents};
+ghost use Rattle.store.specs.Memory.{view};
+ghost use Rattle.moves.specs.Moves.{Ready, ReadyWith, Moves, MovesWith};
+ghost use Rattle.rounds.specs.Drains.{Drained, Answered};
+
+// "A drain stops when every request is answered or its allowance is spent."
+pub fn drain(m: &mut Machine, words: &mut [u64; 256], allowed: u64)
+    requires { ⌜ ReadyWith (now m) (now words) ⌝ }
+    requires { ⌜ view (now m) .rounds < 2 ^ 32 ⌝ }
+    ensures { λ _. ⌜ Drained allowed (now (m .entry)) (now (words .entry)) (now (m .exit)) (now (words .exit)) ⌝ }
+{
+    let mut left = allowed;
+    while 0 < left {
+        if all_answered(m) {
+            return;
+        }
+        round(m, words);
+        shape::add_round(m);
+        left -= 1;
+    }
+}
+
+// "every request is answered"
+pub fn all_answered(m: &Machine) -> bool
+    requires { ⌜ Ready (now m) ⌝ }
+    ensures { λ r. ⌜ Answered (now (m .entry)) r ⌝ }
+{
+    answers::all_answered(m)
+}
+
+// "collects; returns at levels 1 to k; modules; forwards at levels k-1 down to 1; issues; positions ascending"
+fn round(m: &mut Machine, words: &mut [u64; 256])
+    requires { ⌜ ReadyWith (now m) (now words) ⌝ }
+    ensures { λ _. ⌜ MovesWith (roundEvents (view (now (m .entry)) .fixed .k) (2 ^ view (now (m .entry)) .fixed .k)) (now (m .entry)) (now (words .entry)) (now (m .exit)) (now (words .exit)) ⌝ }
+{
+    collects(m);
+    returns_up(m);
+    modules(m, words);
+    forwards_down(m);
+    issues(m);
+}
+
+// "returns at levels 1 to k"
+fn returns_up(m: &mut Machine)
+    requires { ⌜ Ready (now m) ⌝ }
+    ensures { λ _. ⌜ Moves (rowsUp 3 (view (now (m .entry)) .fixed .k) (2 ^ view (now (m .entry)) .fixed .k)) (now (m .entry)) (now (m .exit)) ⌝ }
+{
+    let k = shape::levels(m);
+    let mut level = 0;
+    while level < k {
+        level += 1;
+        returns(m, level);
+    }
+}
+
+// "forwards at levels k-1 down to 1"
+fn forwards_down(m: &mut Machine)
+    requires { ⌜ Ready (now m) ⌝ }
+    ensures { λ _. ⌜ Moves (rowsDown 1 (view (now (m .entry)) .fixed .k - 1) (2 ^ view (now (m .entry)) .fixed .k)) (now (m .entry)) (now (m .exit)) ⌝ }
+{
+    let mut level = shape::levels(m) - 1;
+    while 0 < level {
+        forwards(m, level);
+        level -= 1;
+    }
+}
+
+fn collects(m: &mut Machine)
+    requires { ⌜ Ready (now m) ⌝ }
+    ensures { λ _. ⌜ Moves (row 4 0 (2 ^ view (now (m .entry)) .fixed .k)) (now (m .entry)) (now (m .exit)) ⌝ }
+{
+    let n = wiring::width(shape::levels(m));
+    let mut p = 0;
+    while p < n {
+        let busy = queues::next_reply(m, 0, p);
+        if n <= busy {
+            return;
+        }
+        replies::collect(m, busy);
+        p = busy + 1;
+    }
+}
+
+fn returns(m: &mut Machine, level: usize)
+    requires { ⌜ Ready (now m) ⌝ }
+    requires { ⌜ (0 < level) × (level ≤ view (now m) .fixed .k) ⌝ }
+    ensures { λ _. ⌜ Moves (row 3 level (2 ^ view (now (m .entry)) .fixed .k)) (now (m .entry)) (now (m .exit)) ⌝ }
+{
+    let n = wiring::width(shape::levels(m));
+    let mut p = 0;
+    while p < n {
+        let busy = queues::next_reply(m, level, p);
+        if n <= busy {
+            return;
+        }
+        replies::return_step(m, level, busy);
+        p = busy + 1;
+    }
+}
+
+fn modules(m: &mut Machine, words: &mut [u64; 256])
+    requires { ⌜ ReadyWith (now m) (now words) ⌝ }
+    ensures { λ _. ⌜ MovesWith (row 2 (view (now (m .entry)) .fixed .k) (2 ^ view (now (m .entry)) .fixed .k)) (now (m .entry)) (now (words .entry)) (now (m .exit)) (now (words .exit)) ⌝ }
+{
+    let k = shape::levels(m);
+    let n = wiring::width(k);
+    let mut p = 0;
+    while p < n {
+        let busy = queues::next_request(m, k, p);
+        if n <= busy {
+            return;
+        }
+        replies::module_step(m, words, busy);
+        p = busy + 1;
+    }
+}
+
+fn forwards(m: &mut Machine, level: usize)
+    requires { ⌜ Ready (now m) ⌝ }
+    requires { ⌜ (0 < level) × (level < view (now m) .fixed .k) ⌝ }
+    ensures { λ _. ⌜ Moves (row 1 level (2 ^ view (now (m .entry)) .fixed .k)) (now (m .entry)) (now (m .exit)) ⌝ }
+{
+    let n = wiring::width(shape::levels(m));
+    let mut p = 0;
+    while p < n {
+        let busy = queues::next_request(m, level, p);
+        if n <= busy {
+            return;
+        }
+        requests::forward(m, level, busy);
+        p = busy + 1;
+    }
+}
+
+fn issues(m: &mut Machine)
+    requires { ⌜ Ready (now m) ⌝ }
+    ensures { λ _. ⌜ Moves (row 0 0 (2 ^ view (now (m .entry)) .fixed .k)) (now (m .entry)) (now (m .exit)) ⌝ }
+{
+    let n = wiring::width(shape::levels(m));
+    let mut p = 0;
+    while p < n {
+        let busy = queues::next_request(m, 0, p);
+        if n <= busy {
+            return;
+        }
+        requests::issue(m, busy);
+        p = busy + 1;
+    }
+}

@@ -1,0 +1,20 @@
+-- `wiring::position_on` meets its contract, by what a digit is.
+use mathlib.Core.Path.{refl}
+use native.Mathlib.Omega.{arith}
+use borrow.Author.Needs.{needs}
+use Rattle.words.specs.Digits.{digit}
+use Rattle.wiring.proofs.position_on.Statement.{statement}
+use Rattle.wiring.proofs.position_on.Tie as tie
+
+mul-result : tie.Need-mul-result
+mul-result c = search needs
+
+shr-result : tie.Need-shr-result
+shr-result c = search needs
+
+returns : tie.Need-returns
+unfolding digit
+returns c = (refl, omega arith)
+
+pub position-on-spec : {M : Type 1} → statement M
+position-on-spec = tie.close (tie.spec mul-result shr-result returns)
