@@ -34,11 +34,6 @@ update2-two f g s p a s′ p′ b here′ here others =
     update2-unique (update2 f s p a) g s′ p′ b here′
     (λ i j n. update2-ind f s p a (λ i j y. ¬ ((i ≡ s′) × (j ≡ p′)) → g i j ≡ y) (λ _. here) (λ i j m n. others i j m n) i j n)
 
--- a position is one of at most 16
-pub position-small : (path s : ℕ) → positionOn path s < 16
-unfolding positionOn
-position-small path s = omega arith
-
 -- the oldest of a queue is the first of its tags
 pub oldest-first : (x : Network) (v : View) (s p t : ℕ) (rest : List ℕ) → v .requests s p ≡ t ∷ rest → (behind : List ℕ) × (tagsAt x v s p ≡ t ∷ behind)
 oldest-first x v zero e t rest is = (ofEngine x e (suc t), rw is)

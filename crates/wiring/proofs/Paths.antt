@@ -4,7 +4,7 @@ use Prim.Native.Nat.{ℕ, zero, suc, _+_, _-_, _*_, _^_, _≤_, _<_}
 use native.Mathlib.Nat.{lt-of-lt-of-le}
 use native.Mathlib.Omega.{arith}
 use lib.Pow.{pow-mono}
-use Rattle.words.proofs.Digits.{place, place-suc, digit-pushed, digit-moved}
+use Rattle.words.proofs.Digits.{place, place-suc, digit-lt, digit-pushed, digit-moved}
 use Rattle.wiring.specs.Wiring.{position, positionOn, PathOf}
 use Rattle.wiring.proofs.Laws.{position-below}
 use Rattle.wiring.proofs.Shifts.{width-small}
@@ -32,6 +32,7 @@ module _ (k e m : ℕ) where
     next-small = omega (arith, position-below k e m (left - 1), width-small k few)
 
     next-positions : 0 < left → (i : ℕ) → i + (left - 1) ≤ k → positionOn (path * 16 + position k e m (left - 1)) i ≡ position k e m (i + (left - 1))
+    unfolding positionOn
     next-positions l zero g = digit-pushed 4 path (position k e m (left - 1)) next-small ∙ ap (position k e m) (omega arith)
     next-positions l (suc i) g =
         digit-moved 4 path (position k e m (left - 1)) i next-small ∙ h .positions i (omega arith) ∙ ap (position k e m) (omega arith)
@@ -46,3 +47,8 @@ module _ (k e m : ℕ) where
       positions = λ s l. h .positions s (omega arith) ∙ ap (position k e m) (omega arith);
       small = lt-of-lt-of-le (h .small) (pow-mono {i = (k + 1 - left) * 4} {j = 20} (omega arith));
     }
+
+-- a position is one of at most 16, whatever the word
+pub position-small : (path s : ℕ) → positionOn path s < 16
+unfolding positionOn
+position-small path s = digit-lt 4 path s

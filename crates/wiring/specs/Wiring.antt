@@ -29,8 +29,8 @@ shuffled k e m zero = e
 shuffled k e m (suc s) = replaced (rotated k (shuffled k e m s)) (nextBit k m s)
 
 -- The positions of a path in one word, four bits for each level, level 0 the lowest: the position at a level
-abbrev pub positionOn : ℕ → ℕ → ℕ
-positionOn = digit 4
+unfoldable pub positionOn : ℕ → ℕ → ℕ
+positionOn path s = digit 4 path s
 
 -- the path of engine e to module m in such a word
 pub record PathOf (k e m path : ℕ) : Type 0 where

@@ -3,6 +3,7 @@ use mathlib.Core.Path.{refl}
 use native.Mathlib.Omega.{arith}
 use borrow.Author.Needs.{needs}
 use Rattle.words.specs.Digits.{digit}
+use Rattle.wiring.specs.Wiring.{positionOn}
 use Rattle.wiring.proofs.position_on.Statement.{statement}
 use Rattle.wiring.proofs.position_on.Tie as tie
 
@@ -13,7 +14,7 @@ shr-result : tie.Need-shr-result
 shr-result c = search needs
 
 returns : tie.Need-returns
-unfolding digit
+unfolding positionOn digit
 returns c = (refl, omega arith)
 
 pub position-on-spec : {M : Type 1} → statement M
