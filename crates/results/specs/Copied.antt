@@ -1,0 +1,19 @@
+-- What a run leaves in lent memory: document 01, "Accepted".
+use Prim.Native.Nat.{ℕ}
+use mathlib.Core.List.{List, _++_}
+use lib.ListN.{length, drop}
+use Rattle.lists.specs.Choice.{choose}
+use Rattle.lists.specs.Table.{listBelow}
+use Rattle.view.specs.View.{View}
+
+-- a list put in front of what is lent beyond it: "Everything lent beyond those stays"
+abbrev pub over : List ℕ → List ℕ → List ℕ
+over new old = new ++ drop (length new) old
+
+-- "first R reply values (0 where unanswered)"
+abbrev pub valuesIn : View → ℕ → List ℕ
+valuesIn v n = listBelow n (λ t. choose (v .answered t) (v .carried t .first) 0)
+
+-- "and marks (1 answered, 0 otherwise)"
+abbrev pub marksIn : View → ℕ → List ℕ
+marksIn v n = listBelow n (λ t. choose (v .answered t) 1 0)
