@@ -122,12 +122,12 @@ fn split(m: &mut Machine, level: usize, position: usize, t: u8, waits: Pairs, i:
 {
     let second = waits.second(i);
     let below = level - 1;
-    let to = tags::position_of(m, second, below);
-    if queues::reply_count(m, below, to) < shape::queue_room(m) {
+    let target = tags::position_of(m, second, below);
+    if queues::reply_count(m, below, target) < shape::queue_room(m) {
         let f = tags::operation_at(m, second);
         let answer = operation::apply(f, tags::value_at(m, t));
         tags::set_value(m, second, answer);
-        queues::push_reply(m, below, to, second);
+        queues::push_reply(m, below, target, second);
         let fewer = waits.removed(i);
         queues::store_waits(m, level, position, fewer);
     }

@@ -7,7 +7,7 @@ use lib.ListN.{length, take}
 use lib.Dec.{leb}
 use Rattle.lists.specs.Choice.{choose}
 use Rattle.text.specs.Written.{reportRoom}
-use Rattle.model.specs.Result.{over}
+use Rattle.results.specs.Copied.{over}
 use Rattle.model.specs.Report.{report}
 use Rattle.report.specs.declared.Written.{Written}
 

@@ -1,13 +1,18 @@
 // The report of a trace, as bytes in a lent buffer: document 01, "A session given whole".
-use network::Shape;
+use store::Machine;
+use store::shape;
+use store::tags;
 use trace::Answer;
 ghost use mathlib.Core.Path.{_≡_};
-ghost use Prim.Native.Nat.{_≤_};
+ghost use Prim.Native.Nat.{_+_, _*_, _≤_};
 ghost use lib.ListN.{length};
-ghost use Rattle.text.specs.Written.{Reported as Printed, reportRoom};
+ghost use Rattle.text.specs.Text.{replyLines, orderLines};
+ghost use Rattle.text.specs.Written.{Wrote, Reported as Printed, lineRoom, reportRoom};
+ghost use Rattle.store.specs.Memory.{view};
+ghost use Rattle.results.specs.Copied.{valuesIn, marksIn};
 ghost use Rattle.model.specs.Report.{report as text};
-ghost use Rattle.model.specs.Run.{Loading, Noted};
-ghost use Rattle.report.specs.Names.{Addresses, Copied, Marked, NamedIn};
+ghost use Rattle.report.specs.Names.{Marked};
+ghost use Rattle.report.specs.Lines.{Printable, textIn};
 ghost use Rattle.report.specs.Written.{Reported};
 
 // Whether the buffer has room for every report, and the length of the report.
@@ -36,100 +41,68 @@ fn put_report(trace: &[u8], out: &mut [u8]) -> usize
 {
     let mut given = [0u8; 256];
     let mut memory = [0u64; 256];
-    let mut table = [0u64; 1280];
-    let told = trace::load(trace, &mut given, &mut memory, &mut table);
+    let mut m = [0u64; 1152];
+    let told = trace::load(trace, &mut given, &mut memory, &mut m);
     match told {
         Answer::Refused(f, at) => text::put_refused(out, trace::number_of(f) as u64, at as u64),
         Answer::Accepted(facts) => {
-            let at = facts.steps;
-            let s = model::shape_of(facts);
-            put_run(trace, at, s, &table, &mut memory, &given, out)
+            let n = facts.requests;
+            name_requests(&m, n, &mut given);
+            model::run::from_start(trace, facts, &mut m, &mut memory);
+            put_results(&m, &memory, &given, out)
         }
     }
 }
 
-// The report of an accepted trace, with the addresses that its words have.
-fn put_run(
-    trace: &[u8],
-    at: usize,
-    s: Shape,
-    table: &[u64; 1280],
-    memory: &mut [u64; 256],
-    given: &[u8; 256],
-    out: &mut [u8],
-) -> usize
-    requires { ⌜ Loading (now trace) at s (now table) (now memory) ⌝ }
-    requires { ⌜ Noted (now trace) (now given) (now table) ⌝ }
-    requires { ⌜ reportRoom ≤ length (now out) ⌝ }
-    ensures { λ r. ⌜ Printed (text (now (trace .entry))) (now (out .entry)) (now (out .exit)) r ⌝ }
+// Each address that a request has is marked beside those that were given.
+fn name_requests(m: &Machine, n: usize, named: &mut [u8; 256])
+    requires { ⌜ (n ≤ 256) × (length (now named) ≡ 256) ⌝ }
+    ensures { λ _. ⌜ Marked (view (now (m .entry)) .fixed .address) n (now (named .entry)) (now (named .exit)) ⌝ }
 {
-    let n = s.count;
-    let mut named = [0u8; 256];
-    name_requests(table, n, given, &mut named);
-    put_outcome(trace, at, s, table, memory, &named, out)
-}
-
-// The marks of the given addresses, and of each that a request has.
-fn name_requests(table: &[u64; 1280], n: usize, given: &[u8; 256], named: &mut [u8; 256])
-    requires { ⌜ Addresses (now table) n × (length (now named) ≡ 256) ⌝ }
-    ensures { λ _. ⌜ Marked (now (table .entry)) n (now (given .entry)) (now (named .exit)) ⌝ }
-{
-    copy_marks(given, named);
     for tag in 0..n {
-        let address = node::address_of(table, tag as u8);
+        let address = tags::address_of(m, tag as u8);
         named[address as usize] = 1;
     }
 }
 
-fn copy_marks(from: &[u8; 256], to: &mut [u8; 256])
-    requires { ⌜ length (now to) ≡ 256 ⌝ }
-    ensures { λ _. ⌜ Copied (now (from .entry)) (now (to .exit)) ⌝ }
+// The text of a run, section by section.
+fn put_results(m: &Machine, memory: &[u64; 256], named: &[u8; 256], out: &mut [u8]) -> usize
+    requires { ⌜ Printable (view (now m)) ⌝ }
+    requires { ⌜ reportRoom ≤ length (now out) ⌝ }
+    ensures { λ r. ⌜ Printed (textIn (view (now (m .entry))) (now (memory .entry)) (now (named .entry))) (now (out .entry)) (now (out .exit)) r ⌝ }
 {
-    for a in 0..256 {
-        to[a] = from[a];
-    }
+    let orders = put_replies(m, out);
+    let addresses = put_orders(m, out, orders);
+    let counts = text::put_words(out, addresses, memory, named);
+    text::put_counts(
+        out,
+        counts,
+        shape::accesses(m),
+        shape::merges(m),
+        shape::rounds(m),
+    )
 }
 
-// The run of an accepted trace, and its report.
-fn put_outcome(
-    trace: &[u8],
-    at: usize,
-    s: Shape,
-    table: &[u64; 1280],
-    memory: &mut [u64; 256],
-    named: &[u8; 256],
-    out: &mut [u8],
-) -> usize
-    requires { ⌜ Loading (now trace) at s (now table) (now memory) ⌝ }
-    requires { ⌜ NamedIn (now trace) (now named) ⌝ }
+fn put_replies(m: &Machine, out: &mut [u8]) -> usize
+    requires { ⌜ Printable (view (now m)) ⌝ }
     requires { ⌜ reportRoom ≤ length (now out) ⌝ }
-    ensures { λ r. ⌜ Printed (text (now (trace .entry))) (now (out .entry)) (now (out .exit)) r ⌝ }
+    ensures { λ r. ⌜ Wrote (now (out .entry)) 0 (replyLines (view (now (m .entry)) .fixed .count) (valuesIn (view (now (m .entry))) (view (now (m .entry)) .fixed .count)) (marksIn (view (now (m .entry))) (view (now (m .entry)) .fixed .count))) (now (out .exit)) r × (r ≤ lineRoom * 256) ⌝ }
 {
+    let n = shape::requests_in(m);
     let mut replies = [0u64; 256];
     let mut marks = [0u8; 256];
+    results::copy_values(m, n, &mut replies);
+    results::copy_marks(m, n, &mut marks);
+    text::put_replies(out, 0, n, &replies, &marks)
+}
+
+fn put_orders(m: &Machine, out: &mut [u8], at: usize) -> usize
+    requires { ⌜ Printable (view (now m)) ⌝ }
+    requires { ⌜ at + lineRoom * 256 ≤ length (now out) ⌝ }
+    ensures { λ r. ⌜ Wrote (now (out .entry)) at (orderLines (length (view (now (m .entry)) .order)) (view (now (m .entry)) .order)) (now (out .exit)) r × (r ≤ at + lineRoom * 256) ⌝ }
+{
+    let n = shape::ordered(m);
     let mut order = [0u64; 256];
-    let n = s.count;
-    let c = model::run::from_start(
-        trace,
-        at,
-        s,
-        table,
-        memory,
-        &mut replies[..n],
-        &mut marks[..n],
-        &mut order[..n],
-    );
-    text::put_accepted(
-        out,
-        n,
-        &replies,
-        &marks,
-        c.ordered,
-        &order,
-        memory,
-        named,
-        c.accesses,
-        c.merges,
-        c.rounds,
-    )
+    results::copy_order(m, &mut order);
+    text::put_orders(out, at, n, &order)
 }

@@ -5,12 +5,10 @@ use store::shape;
 use store::tags;
 ghost use mathlib.Core.Path.{_≡_};
 ghost use Prim.Native.Nat.{_≤_, _<_};
-ghost use lib.Dec.{eqb};
-ghost use lib.ListN.{length, getD};
-ghost use Rattle.lists.specs.Choice.{choose};
+ghost use lib.ListN.{length};
 ghost use Rattle.store.specs.Layout.{size};
 ghost use Rattle.store.specs.Memory.{view};
-ghost use Rattle.start.specs.Linked.{Loaded, Started, LinkedTo};
+ghost use Rattle.start.specs.Linked.{Loaded, Started, LinkedTo, firstIn};
 
 // From the requests that a trace has put into the machine.
 pub fn start(m: &mut Machine, k: u64, q: u64, w: u64, count: usize)
@@ -39,8 +37,8 @@ fn link(m: &mut Machine, t: usize)
 
 // The first request of engine e so far, or the number of requests.
 fn first_of(m: &Machine, e: usize) -> usize
-    requires { ⌜ e < 16 ⌝ }
-    ensures { λ r. ⌜ r ≡ choose (eqb (length (view (now (m .entry)) .requests 0 e)) 0) (view (now (m .entry)) .fixed .count) (getD (view (now (m .entry)) .requests 0 e) 0 0) ⌝ }
+    requires { ⌜ (e < 16) × (view (now m) .fixed .count ≤ 256) ⌝ }
+    ensures { λ r. ⌜ (r ≡ firstIn (view (now (m .entry))) e) × (r ≤ 256) ⌝ }
 {
     if queues::request_count(m, 0, e) == 0 {
         return shape::requests_in(m);

@@ -12,7 +12,8 @@ use Rattle.operation.specs.declared.Words.{Words}
 use Rattle.words.specs.Digits.{lengthIn, byteIn, bitIn}
 use Rattle.view.specs.View.{Pair, Fixed, View}
 use Rattle.queue.specs.Queue.{tagsIn, pairsIn}
-use Rattle.store.specs.Layout.{size, atK, atQ, atW, atCount, atEvery, atAnswered, atOrdered, atAccesses, atMerges, atRounds, atRequestLengths, atReplyLengths, atWaitLengths, atOrder, atRequests, atReplies, atFirsts, atSeconds, atHeads, atFirstOperands, atSecondOperands}
+use Rattle.store.specs.Layout.{size, atK, atQ, atW, atCount, atEvery, atAnswered, atOrdered, atAccesses, atMerges, atRounds, atRequestLengths, atReplyLengths, atWaitLengths}
+use Rattle.store.specs.Layout.{atOrder, atRequests, atReplies, atFirsts, atSeconds, atHeads, atFirstOperands, atSecondOperands}
 
 -- ---- the regions, and how each is read
 -- a word by itself
@@ -29,7 +30,7 @@ marksAt from m t = choose (ltb t 256) (eqb (bitIn (getD m (from + t / 64) 0) (t 
 
 -- a byte for each of 256 places, eight to a word
 abbrev pub bytesAt : ℕ → List ℕ → ℕ → ℕ
-bytesAt from m i = byteIn (getD m (from + i / 8) 0) (i % 8)
+bytesAt from m i = choose (ltb i 256) (byteIn (getD m (from + i / 8) 0) (i % 8)) 0
 
 -- a word for each of sixteen positions of levels 0 to 4
 abbrev pub gridAt : ℕ → List ℕ → ℕ → ℕ → ℕ
@@ -114,3 +115,8 @@ pub record NextFull {A : Type 0} (queues : ℕ → List A) (from r : ℕ) : Type
 pub record Same (f g : ℕ → Bool) (r : Bool) : Type 0 where
   pub same : r ≡ true → (t : ℕ) → f t ≡ g t
   pub differ : r ≡ false → ¬ ((t : ℕ) → f t ≡ g t)
+
+-- whether two words have the same marks
+pub record SameMarks (a b : ℕ) (r : Bool) : Type 0 where
+  pub same : r ≡ true → a ≡ b
+  pub differ : r ≡ false → ¬ ((i : ℕ) → i < 64 → bitIn a i ≡ bitIn b i)

@@ -10,7 +10,7 @@ ghost use Prim.Native.Nat.{_<_};
 ghost use lib.ListN.{length, getD};
 ghost use Rattle.view.specs.View.{withAnswer, withOrder};
 ghost use Rattle.store.specs.Layout.{size};
-ghost use Rattle.store.specs.Memory.{view, Becomes, Same};
+ghost use Rattle.store.specs.Memory.{view, Becomes, Same, SameMarks};
 
 pub fn is_answered(m: &Machine, t: usize) -> bool
     requires { ⌜ t < 256 ⌝ }
@@ -32,16 +32,22 @@ pub fn set_answered(m: &mut Machine, t: u8)
 pub fn all_answered(m: &Machine) -> bool
     ensures { λ r. ⌜ Same (view (now (m .entry)) .answered) (view (now (m .entry)) .fixed .every) r ⌝ }
 {
-    if m[ANSWERED] != m[EVERY] {
+    if !same_marks(m[ANSWERED], m[EVERY]) {
         return false;
     }
-    if m[ANSWERED + 1] != m[EVERY + 1] {
+    if !same_marks(m[ANSWERED + 1], m[EVERY + 1]) {
         return false;
     }
-    if m[ANSWERED + 2] != m[EVERY + 2] {
+    if !same_marks(m[ANSWERED + 2], m[EVERY + 2]) {
         return false;
     }
-    m[ANSWERED + 3] == m[EVERY + 3]
+    same_marks(m[ANSWERED + 3], m[EVERY + 3])
+}
+
+fn same_marks(a: u64, b: u64) -> bool
+    ensures { λ r. ⌜ SameMarks a b r ⌝ }
+{
+    a == b
 }
 
 // One tag more at the end of the order list.

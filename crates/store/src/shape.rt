@@ -10,7 +10,7 @@ use super::Q;
 use super::ROUNDS;
 use super::W;
 ghost use mathlib.Core.Path.{_≡_};
-ghost use Prim.Native.Nat.{_-_, _*_, _≤_, _<_, _^_, min};
+ghost use Prim.Native.Nat.{_-_, _≤_, _<_, _^_, min};
 ghost use lib.ListN.{length};
 ghost use Rattle.view.specs.View.{withFixed, withAccess, withMerge, withRound, shaped};
 ghost use Rattle.store.specs.Layout.{size};

@@ -6,7 +6,7 @@ use super::SECOND_OPERANDS;
 use operation::Operation;
 use operation::Words;
 ghost use mathlib.Core.Path.{_≡_};
-ghost use Prim.Native.Nat.{_≤_, _<_, _^_};
+ghost use Prim.Native.Nat.{_+_, _*_, _/_, _^_, _≤_, _<_};
 ghost use lib.ListN.{length};
 ghost use Rattle.operation.specs.Operation.{operationOf, wordsOf};
 ghost use Rattle.wiring.specs.Wiring.{positionOn};
@@ -77,9 +77,17 @@ pub fn set_operation(m: &mut Machine, t: u8, f: Operation)
 {
     let i = t as usize;
     let words = operation::words_of(f);
-    m[HEADS + i] = m[HEADS + i] / 256 * 256 + words.code;
+    m[HEADS + i] = with_code(m[HEADS + i], words.code);
     m[FIRST_OPERANDS + i] = words.first;
     m[SECOND_OPERANDS + i] = words.second;
+}
+
+// A head with another code.
+fn with_code(head: u64, code: u64) -> u64
+    requires { ⌜ code < 256 ⌝ }
+    ensures { λ r. ⌜ r ≡ head / 256 * 256 + code ⌝ }
+{
+    head / 256 * 256 + code
 }
 
 // The value that the reply or the answer t carries: it stands where the first operand stood.
@@ -91,7 +99,8 @@ pub fn value_at(m: &Machine, t: u8) -> u64
 
 pub fn set_value(m: &mut Machine, t: u8, value: u64)
     requires { ⌜ length (now m) ≡ size ⌝ }
-    ensures { λ _. ⌜ Becomes (now (m .exit)) (withCarried (view (now (m .entry))) t (record { code = view (now (m .entry)) .carried t .code; first = value; second = view (now (m .entry)) .carried t .second })) ⌝ }
+    ensures { λ _. ⌜ Becomes (now (m .exit)) (withCarried (view (now (m .entry))) t
+        (record { code = view (now (m .entry)) .carried t .code; first = value; second = view (now (m .entry)) .carried t .second })) ⌝ }
 {
     m[FIRST_OPERANDS + t as usize] = value;
 }

@@ -3,33 +3,8 @@ ghost use mathlib.Core.Path.{_≡_};
 ghost use mathlib.Core.List.{[], _∷_};
 ghost use Prim.Native.Nat.{_+_, _*_, _≤_, _<_};
 ghost use lib.ListN.{length};
-ghost use Rattle.text.specs.Text.{digit, decimal, replyLine, orderLine, wordLine, replyLines, orderLines, wordLines, countLines, acceptedText, refusedText};
-ghost use Rattle.text.specs.Written.{Wrote, Reported, field, line, pair, lineRoom, reportRoom};
-
-// The text of an accepted trace.
-pub fn put_accepted(
-    out: &mut [u8],
-    count: usize,
-    values: &[u64],
-    marks: &[u8],
-    n: usize,
-    order: &[u64],
-    words: &[u64; 256],
-    named: &[u8; 256],
-    accesses: u64,
-    merges: u64,
-    rounds: u64,
-) -> usize
-    requires { ⌜ reportRoom ≤ length (now out) ⌝ }
-    requires { ⌜ (count ≤ 256) × (count ≤ length (now values)) × (count ≤ length (now marks)) ⌝ }
-    requires { ⌜ (n ≤ 256) × (n ≤ length (now order)) ⌝ }
-    ensures { λ r. ⌜ Reported (acceptedText count (now (values .entry)) (now (marks .entry)) n (now (order .entry)) (now (words .entry)) (now (named .entry)) accesses merges rounds) (now (out .entry)) (now (out .exit)) r ⌝ }
-{
-    let orders = put_replies(out, 0, count, values, marks);
-    let addresses = put_orders(out, orders, n, order);
-    let counts = put_words(out, addresses, words, named);
-    put_counts(out, counts, accesses, merges, rounds)
-}
+ghost use Rattle.text.specs.Text.{digit, decimal, replyLine, orderLine, wordLine, replyLines, orderLines, wordLines, countLines, refusedText};
+ghost use Rattle.text.specs.Written.{Wrote, Reported, field, line, pair, lineRoom};
 
 // The text of a refused trace.
 pub fn put_refused(out: &mut [u8], number: u64, offset: u64) -> usize
@@ -39,7 +14,9 @@ pub fn put_refused(out: &mut [u8], number: u64, offset: u64) -> usize
     put_pair(out, 0, b"refused ", number, offset)
 }
 
-fn put_replies(out: &mut [u8], at: usize, count: usize, values: &[u64], marks: &[u8]) -> usize
+// ---- the sections of an accepted trace's text, one behind another: document 01, "A session given whole"
+
+pub fn put_replies(out: &mut [u8], at: usize, count: usize, values: &[u64], marks: &[u8]) -> usize
     requires { ⌜ (count ≤ length (now values)) × (count ≤ length (now marks)) ⌝ }
     requires { ⌜ at + lineRoom * count ≤ length (now out) ⌝ }
     ensures { λ r. ⌜ Wrote (now (out .entry)) at (replyLines count (now (values .entry)) (now (marks .entry))) (now (out .exit)) r × (r ≤ at + lineRoom * count) ⌝ }
@@ -51,7 +28,7 @@ fn put_replies(out: &mut [u8], at: usize, count: usize, values: &[u64], marks: &
     next
 }
 
-fn put_orders(out: &mut [u8], at: usize, count: usize, order: &[u64]) -> usize
+pub fn put_orders(out: &mut [u8], at: usize, count: usize, order: &[u64]) -> usize
     requires { ⌜ count ≤ length (now order) ⌝ }
     requires { ⌜ at + lineRoom * count ≤ length (now out) ⌝ }
     ensures { λ r. ⌜ Wrote (now (out .entry)) at (orderLines count (now (order .entry))) (now (out .exit)) r × (r ≤ at + lineRoom * count) ⌝ }
@@ -64,7 +41,7 @@ fn put_orders(out: &mut [u8], at: usize, count: usize, order: &[u64]) -> usize
     next
 }
 
-fn put_words(out: &mut [u8], at: usize, words: &[u64; 256], named: &[u8; 256]) -> usize
+pub fn put_words(out: &mut [u8], at: usize, words: &[u64; 256], named: &[u8; 256]) -> usize
     requires { ⌜ at + lineRoom * 256 ≤ length (now out) ⌝ }
     ensures { λ r. ⌜ Wrote (now (out .entry)) at (wordLines 256 (now (words .entry)) (now (named .entry))) (now (out .exit)) r × (r ≤ at + lineRoom * 256) ⌝ }
 {
@@ -75,7 +52,7 @@ fn put_words(out: &mut [u8], at: usize, words: &[u64; 256], named: &[u8; 256]) -
     next
 }
 
-fn put_counts(out: &mut [u8], at: usize, accesses: u64, merges: u64, rounds: u64) -> usize
+pub fn put_counts(out: &mut [u8], at: usize, accesses: u64, merges: u64, rounds: u64) -> usize
     requires { ⌜ at + lineRoom * 3 ≤ length (now out) ⌝ }
     ensures { λ r. ⌜ Wrote (now (out .entry)) at (countLines accesses merges rounds) (now (out .exit)) r × (r ≤ at + lineRoom * 3) ⌝ }
 {

@@ -1,0 +1,21 @@
+-- The oldest reply taken away and its request marked: the machine's collect.
+use Prim.Native.Nat.{ℕ, _<_}
+use mathlib.Core.Path.{_≡_, refl, ap, _∙_}
+use mathlib.Core.List.{List}
+use lib.ListN.{length, getD, drop}
+use Rattle.view.specs.View.{View, withReplies, withAnswer}
+use Rattle.shown.specs.Reached.{single}
+use Rattle.shown.proofs.Collecting.{collect-shows}
+use Rattle.shown.proofs.Events.{collect-moves}
+use Rattle.store.specs.Memory.{view, Becomes}
+use Rattle.moves.specs.Moves.{Moves}
+use Rattle.replies.proofs.Oldest.{oldest-first}
+
+pub collected : {m m₁ m₂ : List ℕ} (e t : ℕ) → 0 < length (view m .replies 0 e) → t ≡ getD (view m .replies 0 e) 0 0 →
+    Becomes m₁ (withReplies (view m) 0 e (drop 1 (view m .replies 0 e))) → Becomes m₂ (withAnswer (view m₁) t) → Moves (single 4 0 e) m m₂
+collected {m} {m₁} {m₂} e t some oldest popped marked =
+    let is : view m₂ ≡ withAnswer (withReplies (view m) 0 e (drop 1 (view m .replies 0 e))) t = marked .holds ∙ ap (λ (v : View). withAnswer v t) (popped .holds) in
+    record {
+      sized = marked .sized;
+      moved = λ x words _. rw is (collect-moves 4 0 e refl refl refl (collect-shows x (view m) words e t (drop 1 (view m .replies 0 e)) (oldest-first (view m .replies 0 e) t some oldest)));
+    }

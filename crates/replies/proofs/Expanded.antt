@@ -1,0 +1,130 @@
+-- The requests that a message stands for, put out record by record.
+use Prim.Native.Nat.{ℕ, zero, suc, _+_, _-_, _≤_, _<_}
+use mathlib.Core.Path.{_≡_, refl, sym, ap, _∙_}
+use mathlib.Core.Logic.{_≢_}
+use mathlib.Core.Bool.{Bool, true, false}
+use mathlib.Core.List.{List, [], _∷_, _++_, append-assoc, append-nil}
+use native.Mathlib.Numerals.{add-one}
+use native.Mathlib.Omega.{arith}
+use lib.ListN.{length, length-append}
+use lib.Dec.{eqb}
+use borrow.Author.Tests.{eq-eqb, ne-eqb}
+use Rattle.lists.specs.Choice.{choose}
+use Rattle.lists.specs.Table.{listBelow}
+use Rattle.lists.proofs.Below.{below-add}
+use Rattle.wiring.specs.Wiring.{positionOn}
+use Rattle.view.specs.View.{Pair, View, withOrder}
+use Rattle.queue.specs.Queue.{pairIn, pairsIn}
+use Rattle.shown.specs.Shown.{secondsFor, tagsFor}
+use Rattle.store.specs.Layout.{size}
+use Rattle.store.specs.Memory.{view, Becomes}
+
+-- ---- what the second tags of t's records among the first i stand for
+module _ (upTo : ℕ → List ℕ) (t : ℕ) where
+  seconds-append : (xs ys : List Pair) → secondsFor upTo t (xs ++ ys) ≡ secondsFor upTo t xs ++ secondsFor upTo t ys
+  seconds-append [] ys = refl
+  seconds-append (r ∷ rs) ys = go (eqb (r .first) t) (seconds-append rs ys)
+    where
+      go : (b : Bool) → secondsFor upTo t (rs ++ ys) ≡ secondsFor upTo t rs ++ secondsFor upTo t ys →
+          choose b (upTo (r .second) ++ secondsFor upTo t (rs ++ ys)) (secondsFor upTo t (rs ++ ys)) ≡
+          choose b (upTo (r .second) ++ secondsFor upTo t rs) (secondsFor upTo t rs) ++ secondsFor upTo t ys
+      go true e = ap (λ (l : List ℕ). upTo (r .second) ++ l) e ∙ sym (append-assoc (upTo (r .second)) (secondsFor upTo t rs) (secondsFor upTo t ys))
+      go false e = e
+
+  module _ (f : ℕ → Pair) where
+    abbrev pub sofar : ℕ → List ℕ
+    sofar i = secondsFor upTo t (listBelow i f)
+
+    one-more : (i : ℕ) → sofar (i + 1) ≡ sofar i ++ secondsFor upTo t (f i ∷ [])
+    unfolding listBelow
+    one-more i = rw add-one (seconds-append (listBelow i f) (f i ∷ []))
+
+    pub sofar-hit : (i : ℕ) → f i .first ≡ t → sofar (i + 1) ≡ sofar i ++ upTo (f i .second)
+    sofar-hit i e = one-more i ∙ ap (λ (l : List ℕ). sofar i ++ l) (rw (eq-eqb (f i .first) t e) (append-nil (upTo (f i .second))))
+
+    pub sofar-miss : (i : ℕ) → f i .first ≢ t → sofar (i + 1) ≡ sofar i
+    sofar-miss i e = one-more i ∙ ap (λ (l : List ℕ). sofar i ++ l) (rw (ne-eqb (f i .first) t e)) ∙ append-nil (sofar i)
+
+    pub sofar-grows : (i n : ℕ) → i ≤ n → length (sofar i) ≤ length (sofar n)
+    sofar-grows i n h =
+        let z : n ≡ i + (n - i) = omega arith in
+        let e = ap sofar z ∙ ap (secondsFor upTo t) (below-add i (n - i) f) ∙ seconds-append (listBelow i f) (listBelow (n - i) (λ j. f (i + j))) in
+        rw (e, length-append) (omega arith)
+
+-- ---- one level more
+module _ (path : ℕ → ℕ) (waits : ℕ → ℕ → List Pair) where
+  pub tags-zero : (level t : ℕ) → level ≡ 0 → tagsFor path waits level t ≡ t ∷ []
+  unfolding tagsFor
+  tags-zero level t e = rw e
+
+  pub tags-part : (level t : ℕ) → level ≢ 0 → length (tagsFor path waits (level - 1) t) ≤ length (tagsFor path waits level t)
+  unfolding tagsFor
+  tags-part zero t h = absurd (h refl)
+  tags-part (suc s) t h = let z : suc s - 1 ≡ s = omega arith in rw (z, length-append (tagsFor path waits s t) _) (omega arith)
+
+  -- the requests of t up to the level below, then what its records there stand for
+  pub tags-up : (level t p firsts seconds n : ℕ) → level ≢ 0 → p ≡ positionOn (path t) level → pairsIn firsts seconds n ≡ waits level p →
+      tagsFor path waits level t ≡ tagsFor path waits (level - 1) t ++ sofar (tagsFor path waits (level - 1)) t (pairIn firsts seconds) n
+  unfolding tagsFor
+  tags-up zero t p firsts seconds n h e g = absurd (h refl)
+  tags-up (suc s) t p firsts seconds n h e g = let z : suc s - 1 ≡ s = omega arith in rw (z, g, e)
+
+-- ---- "up to level 0 they are t alone"
+module _ (m : List ℕ) (level t : ℕ) (bottom : level ≡ 0) where
+  pub one-room : length (view m .order) + length (tagsFor (view m .fixed .path) (view m .waits) level t) ≤ 256 → length (view m .order) < 256
+  one-room room =
+      let one : length (view m .order) + length (t ∷ []) ≤ 256 = rw (tags-zero (view m .fixed .path) (view m .waits) level t bottom) at room in
+      omega (arith, one)
+
+  pub put-one : {m′ : List ℕ} → Becomes m′ (withOrder (view m) (t ∷ [])) → Becomes m′ (withOrder (view m) (tagsFor (view m .fixed .path) (view m .waits) level t))
+  put-one b = rw (tags-zero (view m .fixed .path) (view m .waits) level t bottom) b
+
+-- ---- the order list grows
+order-more : (v : View) (xs ys : List ℕ) → withOrder (withOrder v xs) ys ≡ withOrder v (xs ++ ys)
+order-more v xs ys = rw (append-assoc (v .order) xs ys)
+
+-- up to the level below, from the view at a level's start
+abbrev pub under : View → ℕ → ℕ → List ℕ
+under v level = tagsFor (v .fixed .path) (v .waits) (level - 1)
+
+pub put-none : (m : List ℕ) (level t firsts seconds : ℕ) → length m ≡ size → Becomes m (withOrder (view m) (sofar (under (view m) level) t (pairIn firsts seconds) 0))
+unfolding listBelow
+put-none m level t firsts seconds sized = record { sized = sized; holds = rw (append-nil (view m .order)) }
+
+module _ (m₀ : List ℕ) {m : List ℕ} (level t firsts seconds i : ℕ) (put : Becomes m (withOrder (view m₀) (sofar (under (view m₀) level) t (pairIn firsts seconds) i))) where
+  pub put-hit : {m′ m″ : List ℕ} (first second : ℕ) → first ≡ pairIn firsts seconds i .first → first ≡ t → second ≡ pairIn firsts seconds i .second → m″ ≡ m′ →
+      Becomes m′ (withOrder (view m) (under (view m) level second)) → Becomes m″ (withOrder (view m₀) (sofar (under (view m₀) level) t (pairIn firsts seconds) (i + 1)))
+  put-hit {m′} first second e h g now b =
+      let is : view m′ ≡ withOrder (withOrder (view m₀) (sofar (under (view m₀) level) t (pairIn firsts seconds) i)) (under (view m₀) level second) = rw (put .holds) at (b .holds) in
+      rw now record {
+        sized = b .sized;
+        holds = is ∙ order-more (view m₀) _ _ ∙ ap (withOrder (view m₀)) (rw (sofar-hit (under (view m₀) level) t (pairIn firsts seconds) i (sym e ∙ h), g));
+      }
+
+  pub put-miss : {m″ : List ℕ} (first : ℕ) → first ≡ pairIn firsts seconds i .first → first ≢ t → m″ ≡ m →
+      Becomes m″ (withOrder (view m₀) (sofar (under (view m₀) level) t (pairIn firsts seconds) (i + 1)))
+  put-miss first e n now = rw (now, sofar-miss (under (view m₀) level) t (pairIn firsts seconds) i (λ z. n (e ∙ z))) put
+
+-- ---- of the whole level
+module _ (m m₀ : List ℕ) (level t p firsts seconds n : ℕ) (up : level ≢ 0) (on : p ≡ positionOn (view m₀ .fixed .path t) level)
+    (loaded : pairsIn firsts seconds n ≡ view m₀ .waits level p) (first : Becomes m₀ (withOrder (view m) (tagsFor (view m .fixed .path) (view m .waits) (level - 1) t))) where
+  tags-all : tagsFor (view m .fixed .path) (view m .waits) level t ≡ under (view m) level t ++ sofar (under (view m) level) t (pairIn firsts seconds) n
+  tags-all = tags-up (view m .fixed .path) (view m .waits) level t p firsts seconds n up (rw (first .holds) at on) (rw (first .holds) at loaded)
+
+  pub put-all : {m′ : List ℕ} (i : ℕ) → i ≡ n → Becomes m′ (withOrder (view m₀) (sofar (under (view m₀) level) t (pairIn firsts seconds) i)) →
+      Becomes m′ (withOrder (view m) (tagsFor (view m .fixed .path) (view m .waits) level t))
+  put-all {m′} i e b =
+      let is : view m′ ≡ withOrder (withOrder (view m) (under (view m) level t)) (sofar (under (view m) level) t (pairIn firsts seconds) n) = rw (first .holds, e) at (b .holds) in
+      record { sized = b .sized; holds = is ∙ order-more (view m) _ _ ∙ ap (withOrder (view m)) (sym tags-all) }
+
+  -- a record's second tag has room behind those before it
+  pub second-room : {m₁ : List ℕ} (i u v : ℕ) → i < n → u ≡ pairIn firsts seconds i .first → u ≡ t → v ≡ pairIn firsts seconds i .second →
+      Becomes m₁ (withOrder (view m₀) (sofar (under (view m₀) level) t (pairIn firsts seconds) i)) →
+      length (view m .order) + length (tagsFor (view m .fixed .path) (view m .waits) level t) ≤ 256 → length (view m₁ .order) + length (under (view m₁) level v) ≤ 256
+  second-room {m₁} i u v h e g w b room =
+      let upTo = under (view m) level in
+      let F = pairIn firsts seconds in
+      let is : view m₁ ≡ withOrder (withOrder (view m) (upTo t)) (sofar upTo t F i) = rw (first .holds) at (b .holds) in
+      let a = ap length tags-all ∙ length-append (upTo t) (sofar upTo t F n) in
+      let c = ap length (sofar-hit upTo t F i (sym e ∙ g)) ∙ length-append (sofar upTo t F i) (upTo (F i .second)) in
+      rw (is, length-append, length-append, w) (omega (arith, a, c, sofar-grows upTo t F (i + 1) n (omega arith), room))

@@ -1,0 +1,6 @@
+pub mod Oldest
+pub mod Shape
+pub mod Collected
+pub mod Returned
+pub mod Expanded
+pub mod Served

@@ -1,0 +1,130 @@
+-- `module_step` meets its contract: nothing where the reply queue is full, and the oldest message taken otherwise.
+use native.Mathlib.Omega.{arith}
+use Rattle.replies.proofs.Shape.{shape-small}
+use Rattle.replies.proofs.Served.{request-there, order-fits, access-room, reply-room, request-stays, served-full, served}
+use borrow.Author.Needs.{needs}
+use Rattle.replies.proofs.module_step.Statement.{statement}
+use Rattle.replies.proofs.module_step.Tie as tie
+
+levels-requires : tie.Need-levels-requires
+levels-requires c κs = search needs
+
+queue-room-requires : tie.Need-queue-room-requires
+queue-room-requires c κs = search needs
+
+reply-count-requires : tie.Need-reply-count-requires
+reply-count-requires c κs =
+    let k = c .before .before .before in
+    let s = k .before .before in
+    (omega (arith, shape-small (s .pre .0 .stands), k .levels .ensures), s .pre .1 .0)
+
+returns : tie.Need-returns
+returns c =
+    let count = c .before in
+    let room = count .before .before in
+    let k = room .before .before in
+    let s = k .before .before in
+    served-full (s .pre .0) _ (k .levels .ensures) _ (omega (arith, room .queue-room .ensures, count .reply-count .ensures, c .if1 .taken))
+
+oldest-request-requires : tie.Need-oldest-request-requires
+oldest-request-requires c κs =
+    let k = c .before .before .before .before .before .before in
+    let s = k .before .before in
+    ((omega (arith, shape-small (s .pre .0 .stands), k .levels .ensures), s .pre .1 .0), request-there (s .pre .0) _ (k .levels .ensures) _ (s .pre .1 .1))
+
+expand-requires : tie.Need-expand-requires
+expand-requires c κs =
+    let oldest = c .before in
+    let k = oldest .before .before .before .before .before .before .before in
+    let s = k .before .before in
+    let fits = order-fits (s .pre .0) _ (k .levels .ensures) _ (s .pre .1 .1) _ (oldest .oldest-request .ensures) in
+    (s .pre .0 .sized, (omega (arith, shape-small (s .pre .0 .stands), k .levels .ensures), fits))
+
+add-access-requires : tie.Need-add-access-requires
+add-access-requires c κs =
+    let expanded = c .before in
+    let oldest = expanded .before .before in
+    let k = oldest .before .before .before .before .before .before .before in
+    let s = k .before .before in
+    let order = expanded .expand .ensures in
+    (order .sized, access-room (s .pre .0) _ (k .levels .ensures) _ (s .pre .1 .1) _ (oldest .oldest-request .ensures) order)
+
+exchange-requires : tie.Need-exchange-requires
+exchange-requires c κs =
+    let s = c .before .before .before .before .before .before .before .before .before .before .before .before .before .before .before in
+    s .pre .0 .words-sized
+
+set-value-requires : tie.Need-set-value-requires
+set-value-requires c κs =
+    let counted = c .before .before .before .before in
+    counted .add-access .ensures .sized
+
+push-reply-requires : tie.Need-push-reply-requires
+push-reply-requires c κs =
+    let set = c .before in
+    let word = set .before .before in
+    let counted = word .before .before .before in
+    let expanded = counted .before .before in
+    let oldest = expanded .before .before in
+    let test = oldest .before .before in
+    let count = test .before in
+    let room = count .before .before in
+    let k = room .before .before in
+    let s = k .before .before in
+    let k = k .levels .ensures in
+    let x = word .exchange .ensures in
+    let v = set .set-value .ensures in
+    let fits = reply-room (s .pre .0) _ k _ (s .pre .1 .1) _ (oldest .oldest-request .ensures) (expanded .expand .ensures) _ (counted .add-access .ensures) (x .0) (x .1) v
+    (omega (arith, room .queue-room .ensures, count .reply-count .ensures, test .if1 .left)) in
+    (v .sized, ((omega (arith, shape-small (s .pre .0 .stands), k), s .pre .1 .0), fits))
+
+pop-request-requires : tie.Need-pop-request-requires
+pop-request-requires c κs =
+    let pushed = c .before in
+    let set = pushed .before .before in
+    let word = set .before .before in
+    let counted = word .before .before .before in
+    let expanded = counted .before .before in
+    let oldest = expanded .before .before in
+    let k = oldest .before .before .before .before .before .before .before in
+    let s = k .before .before in
+    let k = k .levels .ensures in
+    let x = word .exchange .ensures in
+    let r = pushed .push-reply .ensures in
+    let stays = request-stays (s .pre .0) _ k _ (s .pre .1 .1) _ (oldest .oldest-request .ensures) (expanded .expand .ensures) _ (counted .add-access .ensures) (x .0) (x .1)
+    (set .set-value .ensures) r in
+    (r .sized, ((omega (arith, shape-small (s .pre .0 .stands), k), s .pre .1 .0), stays))
+
+returns-2 : tie.Need-returns-2
+returns-2 c =
+    let pushed = c .before .before in
+    let set = pushed .before .before in
+    let word = set .before .before in
+    let counted = word .before .before .before in
+    let expanded = counted .before .before in
+    let oldest = expanded .before .before in
+    let test = oldest .before .before in
+    let count = test .before in
+    let room = count .before .before in
+    let k = room .before .before in
+    let s = k .before .before in
+    let x = word .exchange .ensures in
+    served (s .pre .0) _ (k .levels .ensures) _ (s .pre .1 .1) _ (oldest .oldest-request .ensures) (expanded .expand .ensures) _ (counted .add-access .ensures) (x .0) (x .1)
+    (set .set-value .ensures) (pushed .push-reply .ensures) (omega (arith, room .queue-room .ensures, count .reply-count .ensures, test .if1 .left)) (c .pop-request .ensures)
+
+pub module-step-spec : {M : Type 1} → statement M
+module-step-spec =
+    tie.close
+    (tie.spec
+    levels-requires
+    queue-room-requires
+    reply-count-requires
+    returns
+    oldest-request-requires
+    expand-requires
+    add-access-requires
+    exchange-requires
+    set-value-requires
+    push-reply-requires
+    pop-request-requires
+    returns-2)

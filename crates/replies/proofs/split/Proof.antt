@@ -1,0 +1,117 @@
+-- `split` meets its contract: by the room at its target.
+use mathlib.Core.Path.{_≡_, sym, ap, _∙_}
+use native.Mathlib.Omega.{arith}
+use lib.ListN.{getD}
+use Rattle.view.specs.View.{Pair}
+use Rattle.queue.specs.Queue.{pairsOf, noPair}
+use Rattle.queue.proofs.Laws.{pairs-at}
+use Rattle.replies.proofs.Returned.{split-full, split-room, answered-room}
+use borrow.Author.Needs.{needs}
+use Rattle.replies.proofs.split.Statement.{statement}
+use Rattle.replies.proofs.split.Tie as tie
+
+-- the record's second tag
+second-is : (c : tie.After-second) → c .second .result ≡ getD (pairsOf (c .before .args .waits)) (c .before .args .i) noPair .second
+second-is c =
+    let s = c .before in
+    c .second .ensures ∙ sym (ap (λ (r : Pair). r .second) (pairs-at (s .args .waits .firsts) (s .args .waits .seconds) (s .args .waits .len) (s .args .i) (s .pre .1 .1 .1)))
+
+second-requires : tie.Need-second-requires
+second-requires c κs = omega (arith, c .pre .1 .1)
+
+sub-below : tie.Need-sub-below
+sub-below c = search needs
+
+position-of-requires : tie.Need-position-of-requires
+position-of-requires c κs = search needs
+
+reply-count-requires : tie.Need-reply-count-requires
+reply-count-requires c κs = search needs
+
+queue-room-requires : tie.Need-queue-room-requires
+queue-room-requires c κs = search needs
+
+operation-at-requires : tie.Need-operation-at-requires
+operation-at-requires c κs = search needs
+
+value-at-requires : tie.Need-value-at-requires
+value-at-requires c κs = search needs
+
+apply-requires : tie.Need-apply-requires
+apply-requires c κs = search needs
+
+set-value-requires : tie.Need-set-value-requires
+set-value-requires c κs = search needs
+
+push-reply-requires : tie.Need-push-reply-requires
+push-reply-requires c κs =
+    let valued = c .before in
+    let test = valued .before .before .before .before .before .before .before in
+    let room = test .before in
+    let count = room .before .before in
+    let on = count .before .before in
+    let s = on .before .before .before in
+    let set = valued .set-value .ensures in (
+      set .sized,
+      (
+        (omega (arith, s .pre .1 .0), on .position-of .ensures .1),
+        answered-room (s .args .m .now) _ _ _ _ set (omega (arith, s .pre .1 .0, count .reply-count .ensures, room .queue-room .ensures, test .if1 .taken)),
+      ),
+    )
+
+removed-requires : tie.Need-removed-requires
+removed-requires c κs = search needs
+
+store-waits-requires : tie.Need-store-waits-requires
+store-waits-requires c κs =
+    let fewer = c .before in
+    let pushed = fewer .before in
+    let s = pushed .before .before .before .before .before .before .before .before .before .before .before .before .before .before .before .before .before in
+    (pushed .push-reply .ensures .sized, ((s .pre .1 .0 .1, s .pre .1 .0 .2), fewer .removed .ensures .1))
+
+returns : tie.Need-returns
+returns c =
+    let fewer = c .before .before in
+    let pushed = fewer .before in
+    let set = pushed .before .before in
+    let applied = set .before .before in
+    let value = applied .before in
+    let f = value .before .before in
+    let test = f .before .before in
+    let room = test .before in
+    let count = room .before .before in
+    let on = count .before .before in
+    let u = on .before .before in
+    let s = u .before in
+    split-room (s .args .m .now) (s .args .level) _ _ _ _ _ _ _ (omega (arith, s .pre .1 .0)) (second-is u) (on .position-of .ensures .0) _ _ _ _
+    (omega (arith, count .reply-count .ensures, room .queue-room .ensures, test .if1 .taken)) (f .operation-at .ensures) (value .value-at .ensures) (applied .apply .ensures)
+    (fewer .removed .ensures .0) (set .set-value .ensures) (pushed .push-reply .ensures) (c .store-waits .ensures)
+
+returns-2 : tie.Need-returns-2
+returns-2 c =
+    let room = c .before in
+    let count = room .before .before in
+    let on = count .before .before in
+    let u = on .before .before in
+    let s = u .before in
+    split-full (s .args .m .now) (s .args .level) _ _ _ _ _ _ _ (omega (arith, s .pre .1 .0)) (second-is u) (on .position-of .ensures .0) (s .pre .0)
+    (omega (arith, count .reply-count .ensures, room .queue-room .ensures, c .if1 .left))
+
+pub split-spec : {M : Type 1} → statement M
+split-spec =
+    tie.close
+    (tie.spec
+    second-requires
+    sub-below
+    position-of-requires
+    reply-count-requires
+    queue-room-requires
+    operation-at-requires
+    value-at-requires
+    apply-requires
+    set-value-requires
+    push-reply-requires
+    removed-requires
+    store-waits-requires
+    returns
+    returns-2)

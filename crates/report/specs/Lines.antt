@@ -1,0 +1,17 @@
+-- The text of a run, from what the machine in code holds at its end. Nothing here has to be believed: no contract of the public function
+-- names it.
+use Prim.Native.Nat.{ℕ, _≤_}
+use mathlib.Core.List.{List}
+use lib.ListN.{length}
+use Rattle.text.specs.Text.{acceptedText}
+use Rattle.view.specs.View.{View}
+use Rattle.results.specs.Copied.{valuesIn, marksIn}
+
+-- its lines fit the room for every report
+pub record Printable (v : View) : Type 0 where
+  pub requests-few : v .fixed .count ≤ 256
+  pub order-few : length (v .order) ≤ 256
+
+abbrev pub textIn : View → List ℕ → List ℕ → List ℕ
+textIn v words named =
+    acceptedText (v .fixed .count) (valuesIn v (v .fixed .count)) (marksIn v (v .fixed .count)) (length (v .order)) (v .order) words named (v .accesses) (v .merges) (v .rounds)

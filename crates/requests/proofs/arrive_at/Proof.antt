@@ -1,0 +1,99 @@
+-- `arrive_at` meets its contract: refused, or what changed is stored.
+use borrow.Author.Needs.{needs}
+use Rattle.store.specs.Memory.{view}
+use Rattle.node.specs.declared.Node.{Node}
+use Rattle.requests.proofs.Landings.{Loaded, loaded-apart, loaded-rooms, merges-still-few, went-refused, went-appended, went-merged}
+use Rattle.requests.proofs.arrive_at.Statement.{statement}
+use Rattle.requests.proofs.arrive_at.Tie as tie
+
+-- the node in hand
+abbrev node-at : (c : tie.After-load-waits) → Node
+node-at c = record { queue = c .before .before .load-requests .result; waiting = c .load-waits .result }
+
+loaded : (c : tie.After-load-waits) → let s = c .before .before .before .before .before .before .before .before in
+    Loaded (node-at c) (view (s .args .m .now)) (s .args .t) (s .args .level) (s .args .position)
+    (c .before .before .before .before .before .before .queue-room .result) (c .before .before .before .before .wait-room .result)
+loaded c = record {
+  inQueue = c .before .before .load-requests .ensures .0;
+  inWaiting = c .load-waits .ensures .0;
+  roomQ = c .before .before .before .before .before .before .queue-room .ensures;
+  roomW = c .before .before .before .before .wait-room .ensures;
+}
+
+queue-room-requires : tie.Need-queue-room-requires
+queue-room-requires c κs = search needs
+
+wait-room-requires : tie.Need-wait-room-requires
+wait-room-requires c κs = search needs
+
+load-requests-requires : tie.Need-load-requests-requires
+load-requests-requires c κs = let s = c .before .before .before .before .before in (s .pre .1 .0 .0, s .pre .1 .0 .1)
+
+load-waits-requires : tie.Need-load-waits-requires
+load-waits-requires c κs = let s = c .before .before .before .before .before .before .before in (s .pre .1 .0 .0, s .pre .1 .0 .1)
+
+arrive-requires : tie.Need-arrive-requires
+arrive-requires c κs = let s = c .before .before .before .before .before .before .before .before .before in
+    let l = loaded (c .before) in (
+      s .pre .0,
+      (
+        record { queue = c .before .before .before .load-requests .ensures .1; waiting = c .before .load-waits .ensures .1 },
+        (loaded-apart l (s .pre .1 .1), loaded-rooms l (s .pre .1 .0 .2) (s .pre .1 .0 .3)),
+      ),
+    )
+
+enum-told : tie.Need-enum-told
+enum-told c = search needs
+
+enum-told-2 : tie.Need-enum-told-2
+enum-told-2 c = search needs
+
+store-requests-requires : tie.Need-store-requests-requires
+store-requests-requires c κs = let s = c .before .before .before .before .before .before .before .before .before .before .before .before .before .before .before in
+    let arrived = c .before .before .before .before .before .arrive .ensures in
+    (arrived .sized, ((s .pre .1 .0 .0, s .pre .1 .0 .1), arrived .held .queue))
+
+enum-told-3 : tie.Need-enum-told-3
+enum-told-3 c = search needs
+
+store-waits-requires : tie.Need-store-waits-requires
+store-waits-requires c κs = let s = c .before .before .before .before .before .before .before .before .before .before .before .before .before .before .before in
+    let arrived = c .before .before .before .before .before .arrive .ensures in
+    (arrived .sized, ((s .pre .1 .0 .0, s .pre .1 .0 .1), arrived .held .waiting))
+
+add-merge-requires : tie.Need-add-merge-requires
+add-merge-requires c κs = let s = c .before .before .before .before .before .before .before .before .before .before .before .before .before .before .before .before .before in
+    let a = c .before .before .before .before .before .before .before in
+    let stored = c .before .store-waits .ensures in
+    (stored .sized, merges-still-few (loaded (a .before .before)) (a .arrive .ensures) stored (s .pre .1 .0 .4))
+
+returns : tie.Need-returns
+returns c = let a = c .before .before .before in
+    went-refused (loaded (a .before .before)) (a .arrive .ensures) (c .enum-told .given .1)
+
+returns-2 : tie.Need-returns-2
+returns-2 c = let a = c .before .before .before .before .before .before in
+    went-appended (loaded (a .before .before)) (a .arrive .ensures) (c .before .before .before .enum-told2 .given .1) (c .store-requests .ensures)
+
+returns-3 : tie.Need-returns-3
+returns-3 c = let a = c .before .before .before .before .before .before .before .before in
+    went-merged (loaded (a .before .before)) (a .arrive .ensures) (c .before .before .store-waits .ensures) (c .before .before .before .before .before .enum-told3 .given .1) (c .add-merge .ensures)
+
+pub arrive-at-spec : {M : Type 1} → statement M
+arrive-at-spec =
+    tie.close
+    (tie.spec
+    queue-room-requires
+    wait-room-requires
+    load-requests-requires
+    load-waits-requires
+    arrive-requires
+    enum-told
+    enum-told-2
+    store-requests-requires
+    enum-told-3
+    store-waits-requires
+    add-merge-requires
+    returns
+    returns-2
+    returns-3)

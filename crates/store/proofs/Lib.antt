@@ -1,0 +1,9 @@
+pub mod Grid
+pub mod Columns
+pub mod Regions
+pub mod Heads
+pub mod Tagged
+pub mod Queued
+pub mod Answered
+pub mod Shaped
+pub mod Blank

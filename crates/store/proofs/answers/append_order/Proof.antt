@@ -1,0 +1,51 @@
+-- `append_order` meets its contract: a byte at the first free place, and the length.
+use native.Mathlib.Omega.{arith}
+use borrow.Author.Needs.{needs}
+use Rattle.store.proofs.Answered.{order-length, order-appended}
+use Rattle.store.proofs.answers.append_order.Statement.{statement}
+use Rattle.store.proofs.answers.append_order.Tie as tie
+
+element-copy-out-n : tie.Need-element-copy-out-n
+element-copy-out-n c = search needs
+
+add-at : tie.Need-add-at
+add-at c = omega (arith, order-length (c .before .args .m .now), c .before .pre .1)
+
+mul-with-byte : tie.Need-mul-with-byte
+mul-with-byte c = omega (arith, order-length (c .before .args .m .now), c .before .pre .1)
+
+element-copy-out-with-byte : tie.Need-element-copy-out-with-byte
+element-copy-out-with-byte c = omega (arith, order-length (c .before .args .m .now), c .before .pre .1)
+
+with-byte-requires : tie.Need-with-byte-requires
+with-byte-requires c κs = search needs
+
+mul-m : tie.Need-mul-m
+mul-m c = omega (arith, order-length (c .before .before .before .args .m .now), c .before .before .before .pre .1)
+
+element-write-m : tie.Need-element-write-m
+element-write-m c = omega (arith, order-length (c .before .before .before .args .m .now), c .before .before .before .pre .1)
+
+add-m : tie.Need-add-m
+add-m c = omega (arith, order-length (c .before .before .before .args .m .now), c .before .before .before .pre .1)
+
+element-write-m-2 : tie.Need-element-write-m-2
+element-write-m-2 c = search needs
+
+returns : tie.Need-returns
+returns c = let s = c .before .before .before in order-appended (s .args .m .now) (s .pre .0) (s .args .t) _ (omega (arith, order-length (s .args .m .now), s .pre .1)) (c .with-byte .ensures)
+
+pub append-order-spec : {M : Type 1} → statement M
+append-order-spec =
+    tie.close
+    (tie.spec
+    element-copy-out-n
+    add-at
+    mul-with-byte
+    element-copy-out-with-byte
+    with-byte-requires
+    mul-m
+    element-write-m
+    add-m
+    element-write-m-2
+    returns)

@@ -1,0 +1,81 @@
+-- `push_reply` meets its contract: a byte below all others, and the length.
+use native.Mathlib.Omega.{arith}
+use borrow.Author.Needs.{needs}
+use Rattle.store.specs.Layout.{atReplyLengths, atReplies}
+use Rattle.store.specs.Memory.{view}
+use Rattle.store.proofs.Queued.{queue-length, row-kept, queue-pushed, replies-changed}
+use Rattle.store.proofs.queues.push_reply.Statement.{statement}
+use Rattle.store.proofs.queues.push_reply.Tie as tie
+
+mul-at : tie.Need-mul-at
+mul-at c = search needs
+
+add-at : tie.Need-add-at
+add-at c = search needs
+
+add-at-2 : tie.Need-add-at-2
+add-at-2 c = search needs
+
+mul-with-lowest : tie.Need-mul-with-lowest
+mul-with-lowest c = search needs
+
+element-copy-out-with-lowest : tie.Need-element-copy-out-with-lowest
+element-copy-out-with-lowest c = search needs
+
+with-lowest-requires : tie.Need-with-lowest-requires
+with-lowest-requires c κs = search needs
+
+mul-m : tie.Need-mul-m
+mul-m c = search needs
+
+element-write-m : tie.Need-element-write-m
+element-write-m c = search needs
+
+add-row : tie.Need-add-row
+add-row c = search needs
+
+mul-one-more : tie.Need-mul-one-more
+mul-one-more c = search needs
+
+element-copy-out-one-more : tie.Need-element-copy-out-one-more
+element-copy-out-one-more c = search needs
+
+one-more-requires : tie.Need-one-more-requires
+unfolding view
+one-more-requires c κs = let s = c .before .before .before in (
+  s .pre .1 .0 .1,
+  rw (row-kept atReplyLengths atReplies (s .args .m .now) (s .args .level) (s .args .position) (omega arith) (s .pre .1 .0) (s .pre .0) _)
+      (omega (arith, queue-length atReplyLengths atReplies (s .args .m .now) (s .args .level) (s .args .position) (s .pre .1 .0), s .pre .1 .1)),
+)
+
+mul-m-2 : tie.Need-mul-m-2
+mul-m-2 c = search needs
+
+element-write-m-2 : tie.Need-element-write-m-2
+element-write-m-2 c = search needs
+
+returns : tie.Need-returns
+unfolding view
+returns c = let s = c .before .before .before .before in
+    replies-changed (queue-pushed atReplyLengths atReplies (s .args .m .now) (s .args .level) (s .args .position) (omega arith) (s .pre .1 .0) (s .pre .0) (s .args .t) _ _ (s .pre .1 .1)
+    (c .before .before .with-lowest .ensures) (c .one-more .ensures))
+
+pub push-reply-spec : {M : Type 1} → statement M
+push-reply-spec =
+    tie.close
+    (tie.spec
+    mul-at
+    add-at
+    add-at-2
+    mul-with-lowest
+    element-copy-out-with-lowest
+    with-lowest-requires
+    mul-m
+    element-write-m
+    add-row
+    mul-one-more
+    element-copy-out-one-more
+    one-more-requires
+    mul-m-2
+    element-write-m-2
+    returns)

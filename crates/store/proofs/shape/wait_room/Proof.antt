@@ -1,0 +1,16 @@
+-- `wait_room` meets its contract: a word of the shape.
+use mathlib.Core.Path.{refl}
+use borrow.Author.Needs.{needs}
+use Rattle.store.specs.Memory.{view, fixedIn}
+use Rattle.store.proofs.shape.wait_room.Statement.{statement}
+use Rattle.store.proofs.shape.wait_room.Tie as tie
+
+element-copy-out-result : tie.Need-element-copy-out-result
+element-copy-out-result c = search needs
+
+returns : tie.Need-returns
+unfolding view fixedIn
+returns c = refl
+
+pub wait-room-spec : {M : Type 1} → statement M
+wait-room-spec = tie.close (tie.spec element-copy-out-result returns)
