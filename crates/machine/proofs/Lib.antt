@@ -23,6 +23,7 @@ pub mod OnePlace
 pub mod Time
 pub mod Moments
 pub mod StepCounts
+pub mod Rooms
 pub mod Rest
 pub mod Demand3
 pub mod Omega

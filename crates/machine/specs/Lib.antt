@@ -7,4 +7,5 @@ pub mod Single
 pub mod Lawful
 pub mod Order
 pub mod Sound
+pub mod Rooms
 pub mod Omega

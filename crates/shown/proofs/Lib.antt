@@ -6,6 +6,7 @@ pub mod Engines
 pub mod Start
 pub mod Levels
 pub mod Reaching
+pub mod Rooms
 pub mod Moving
 pub mod Events
 pub mod Rests
