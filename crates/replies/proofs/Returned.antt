@@ -1,14 +1,13 @@
 -- A reply one level down, by the tag's own path, or its record's second tag answered: the machine's return.
-use Prim.Native.Nat.{ℕ, suc, _+_, _-_, _≤_, _<_, min}
+use Prim.Native.Nat.{ℕ, suc, _-_, _≤_, _<_}
 use mathlib.Core.Path.{_≡_, refl, sym, ap, subst, _∙_}
-use mathlib.Core.Logic.{_≢_}
 use mathlib.Core.List.{List, [], _∷_, _++_}
 use native.Mathlib.Decide.{decLt}
 use native.Mathlib.Omega.{arith}
 use lib.ListN.{length, getD, take, drop, length-append, length-take, length-drop}
 use lib.Dec.{eqb}
 use borrow.Author.Tests.{lt-ltb, le-ltb}
-use Rattle.lists.specs.Search.{Found, absent, found, firstOf}
+use Rattle.lists.specs.Search.{Found, firstOf}
 use Rattle.lists.proofs.Tests.{by-cases}
 use Rattle.lists.proofs.Tables.{update2-level}
 use Rattle.lists.proofs.Below.{length-below}
@@ -22,9 +21,8 @@ use Rattle.queue.specs.Queue.{pairIn, pairsOf, noPair, foundAt}
 use Rattle.queue.specs.declared.Pairs.{Pairs}
 use Rattle.queue.specs.declared.Place.{Place}
 use Rattle.queue.specs.declared.Place.the-variants.{At, Nowhere}
-use Rattle.shown.specs.Network.{Network}
 use Rattle.shown.specs.Shown.{operationIn, valued, oldestPair}
-use Rattle.shown.specs.Reached.{single, Stands, Moved}
+use Rattle.shown.specs.Reached.{single}
 use Rattle.shown.proofs.Reaching.{stands-sound}
 use Rattle.shown.proofs.Returning.{return-lowers, return-lower-full, return-splits, return-split-full}
 use Rattle.shown.proofs.Events.{return-moves}

@@ -11,7 +11,7 @@ use Rattle.lists.specs.Table.{update}
 use Rattle.lists.proofs.Tests.{by-cases}
 use Rattle.lists.proofs.Tables.{update-same, update-other}
 use Rattle.operation.specs.Operation.{applied}
-use Rattle.view.specs.View.{View, withRequests, withReplies, withCarried, withOrder, withAccess}
+use Rattle.view.specs.View.{withRequests, withReplies, withCarried, withOrder, withAccess}
 use Rattle.shown.specs.Network.{Network}
 use Rattle.shown.specs.Shown.{operationIn, valued, tagsFor}
 use Rattle.shown.specs.Reached.{single, Stands}

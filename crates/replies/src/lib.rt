@@ -7,9 +7,8 @@ use store::queues;
 use store::shape;
 use store::tags;
 ghost use mathlib.Core.Path.{_≡_};
-ghost use mathlib.Core.List.{[], _∷_, _++_};
-ghost use Prim.Native.Nat.{suc, _+_, _-_, _≤_, _<_};
-ghost use lib.ListN.{length, getD, take, drop, set};
+ghost use Prim.Native.Nat.{_+_, _-_, _≤_, _<_};
+ghost use lib.ListN.{length, getD, set};
 ghost use Rattle.operation.specs.Operation.{applied};
 ghost use Rattle.view.specs.View.{withOrder};
 ghost use Rattle.shown.specs.Shown.{operationIn, tagsFor};
@@ -44,7 +43,8 @@ pub fn module_step(m: &mut Machine, words: &mut [u64; 256], position: usize)
 fn exchange(m: &Machine, words: &mut [u64; 256], t: u8) -> u64
     requires { ⌜ length (now words) ≡ 256 ⌝ }
     ensures { λ r. ⌜ r ≡ getD (now (words .entry)) (view (now (m .entry)) .fixed .address t) 0 ⌝ }
-    ensures { λ _. ⌜ now (words .exit) ≡ set (now (words .entry)) (view (now (m .entry)) .fixed .address t) (applied (operationIn (view (now (m .entry)) .carried t)) (getD (now (words .entry)) (view (now (m .entry)) .fixed .address t) 0)) ⌝ }
+    ensures { λ _. ⌜ now (words .exit) ≡ set (now (words .entry)) (view (now (m .entry)) .fixed .address t)
+        (applied (operationIn (view (now (m .entry)) .carried t)) (getD (now (words .entry)) (view (now (m .entry)) .fixed .address t) 0)) ⌝ }
 {
     let a = tags::address_of(m, t) as usize;
     let f = tags::operation_at(m, t);
