@@ -11,9 +11,15 @@ abbrev pub over : List ℕ → List ℕ → List ℕ
 over new old = new ++ drop (length new) old
 
 -- "first R reply values (0 where unanswered)"
+abbrev pub valueIn : View → ℕ → ℕ
+valueIn v t = choose (v .answered t) (v .carried t .first) 0
+
 abbrev pub valuesIn : View → ℕ → List ℕ
-valuesIn v n = listBelow n (λ t. choose (v .answered t) (v .carried t .first) 0)
+valuesIn v n = listBelow n (valueIn v)
 
 -- "and marks (1 answered, 0 otherwise)"
+abbrev pub markIn : View → ℕ → ℕ
+markIn v t = choose (v .answered t) 1 0
+
 abbrev pub marksIn : View → ℕ → List ℕ
-marksIn v n = listBelow n (λ t. choose (v .answered t) 1 0)
+marksIn v n = listBelow n (markIn v)

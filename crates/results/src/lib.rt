@@ -6,9 +6,8 @@ use store::tags;
 ghost use mathlib.Core.Path.{_≡_};
 ghost use Prim.Native.Nat.{_≤_, _<_};
 ghost use lib.ListN.{length};
-ghost use Rattle.lists.specs.Choice.{choose};
 ghost use Rattle.store.specs.Memory.{view};
-ghost use Rattle.results.specs.Copied.{over, valuesIn, marksIn};
+ghost use Rattle.results.specs.Copied.{over, valueIn, valuesIn, markIn, marksIn};
 
 // "first R reply values (0 where unanswered)"
 pub fn copy_values(m: &Machine, n: usize, replies: &mut [u64])
@@ -61,7 +60,7 @@ pub fn copy_words(memory: &[u64; 256], words: &mut [u64])
 
 fn value_of(m: &Machine, t: usize) -> u64
     requires { ⌜ t < 256 ⌝ }
-    ensures { λ r. ⌜ r ≡ choose (view (now (m .entry)) .answered t) (view (now (m .entry)) .carried t .first) 0 ⌝ }
+    ensures { λ r. ⌜ r ≡ valueIn (view (now (m .entry))) t ⌝ }
 {
     if answers::is_answered(m, t) {
         return tags::value_at(m, t as u8);
@@ -71,7 +70,7 @@ fn value_of(m: &Machine, t: usize) -> u64
 
 fn mark_of(m: &Machine, t: usize) -> u8
     requires { ⌜ t < 256 ⌝ }
-    ensures { λ r. ⌜ r ≡ choose (view (now (m .entry)) .answered t) 1 0 ⌝ }
+    ensures { λ r. ⌜ r ≡ markIn (view (now (m .entry))) t ⌝ }
 {
     if answers::is_answered(m, t) {
         return 1;

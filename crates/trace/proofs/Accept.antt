@@ -13,8 +13,8 @@ use Rattle.lists.specs.Choice.{choose}
 use Rattle.trace.specs.Bytes.{AreBytes}
 use Rattle.trace.specs.Item.{Item, Items, none, after, size, Records, done, broken, next, records, recordsUpTo}
 use Rattle.trace.specs.Refusals.{fault}
-use Rattle.trace.specs.Check.{refused, accepted, ended, decide, judge, check, Valid, valid-none, valid-after}
-use Rattle.trace.specs.Write.{recordOf, traceOf, AllFit, none-fit, after-fit}
+use Rattle.trace.specs.Check.{refused, accepted, ended, decide, checkRecords, check, Valid, valid-none, valid-after}
+use Rattle.trace.specs.Write.{recordOf, traceOf, AllFitBytes, none-fit, after-fit}
 use Rattle.trace.proofs.Tests.{clash}
 use Rattle.trace.proofs.Records.{records-done}
 use Rattle.trace.proofs.Written.{length-record, records-written, first-of}
@@ -23,7 +23,7 @@ pub record Accepted (s : List ℕ) (xs : Items) : Type 0 where
   pub short : length s ≤ 65536
   pub some : xs ≢ none
   pub valid : Valid xs
-  pub fit : AllFit xs
+  pub fit : AllFitBytes xs
   pub bytes-are : s ≡ traceOf xs
 
 pub length-trace : (xs : Items) → length (traceOf xs) ≡ size xs
@@ -32,25 +32,25 @@ length-trace none = refl
 length-trace (after before x) = omega (arith, length-append (traceOf before) (recordOf x), length-trace before, length-record x)
 
 -- items that are not refused are passed over
-pub judge-written : (xs : Items) → Valid xs → AllFit xs → (back : List ℕ) → judge none (records (traceOf xs ++ back)) ≡ judge xs (records back)
-unfolding traceOf judge decide
-judge-written none v fit back = refl
-judge-written (after before x) (valid-after v sound) (after-fit fit fits) back =
+pub check-written : (xs : Items) → Valid xs → AllFitBytes xs → (back : List ℕ) → checkRecords none (records (traceOf xs ++ back)) ≡ checkRecords xs (records back)
+unfolding traceOf checkRecords decide
+check-written none v fit back = refl
+check-written (after before x) (valid-after v sound) (after-fit fit fits) back =
     rw (append-assoc (traceOf before) (recordOf x) back)
-    (judge-written before v fit (recordOf x ++ back) ∙ rw (records-written x fits back, sound))
+    (check-written before v fit (recordOf x ++ back) ∙ rw (records-written x fits back, sound))
 
 -- items that are written are read back, where none is refused
-pub accepts : (before : Items) (x : Item) → Valid (after before x) → AllFit (after before x) → length (traceOf (after before x)) ≤ 65536 →
+pub accepts : (before : Items) (x : Item) → Valid (after before x) → AllFitBytes (after before x) → length (traceOf (after before x)) ≤ 65536 →
     check (traceOf (after before x)) ≡ accepted (after before x)
-unfolding check ended judge records recordsUpTo
+unfolding check ended checkRecords records recordsUpTo
 accepts before x v fit short =
     simp (le-ltb 65536 (length (traceOf (after before x))) short)
-    (rw append-nil at (judge-written (after before x) v fit []))
+    (rw append-nil at (check-written (after before x) v fit []))
 
 -- what is accepted after the items before is those items and the records that follow
 accepted-after : (r : Records) (before xs : Items) (s left : List ℕ) → records left ≡ r → AreBytes left → s ≡ traceOf before ++ left → length s ≤ 65536 →
-    Valid before → AllFit before → judge before r ≡ accepted xs → Accepted s xs
-unfolding judge ended decide traceOf
+    Valid before → AllFitBytes before → checkRecords before r ≡ accepted xs → Accepted s xs
+unfolding checkRecords ended decide traceOf
 accepted-after done none xs s left e are stand short v fit h = clash (cc)
 accepted-after done (after before x) xs s left e are stand short v fit h =
     let same : after before x ≡ xs = items (after before x) h in
@@ -72,8 +72,8 @@ accepted-after (next x rest) before xs s left e are stand short v fit h =
     go (λ sound. accepted-after rest (after before x) xs s (f .back) (sym (f .rest-is)) (f .are) stand′ short (valid-after v sound) (after-fit fit (f .fits)))
     (fault before x) refl h
   where
-    go : (fault before x ≡ 0 → judge (after before x) rest ≡ accepted xs → Accepted s xs) →
-        (n : ℕ) → fault before x ≡ n → decide n before (judge (after before x) rest) ≡ accepted xs → Accepted s xs
+    go : (fault before x ≡ 0 → checkRecords (after before x) rest ≡ accepted xs → Accepted s xs) →
+        (n : ℕ) → fault before x ≡ n → decide n before (checkRecords (after before x) rest) ≡ accepted xs → Accepted s xs
     go on zero f g = on f g
     go on (suc n) f g = clash (cc)
 
@@ -82,7 +82,7 @@ pub accepted-is : (s : List ℕ) (xs : Items) → AreBytes s → check s ≡ acc
 unfolding check traceOf
 accepted-is s xs are e = go (ltb 65536 (length s)) refl e
   where
-    go : (t : Bool) → ltb 65536 (length s) ≡ t → choose t (refused 10 none) (judge none (records s)) ≡ accepted xs → Accepted s xs
+    go : (t : Bool) → ltb 65536 (length s) ≡ t → choose t (refused 10 none) (checkRecords none (records s)) ≡ accepted xs → Accepted s xs
     go true f h = clash (cc)
     go false f h = accepted-after (records s) none xs s s refl are refl (ltb-false 65536 (length s) f) valid-none none-fit h
 
@@ -101,7 +101,7 @@ written-again s xs are e = sym (accepted-is s xs are e .bytes-are)
 valid-before : {before : Items} {x : Item} → Valid (after before x) → Valid before
 valid-before (valid-after v f) = v
 
-fit-before : {before : Items} {x : Item} → AllFit (after before x) → AllFit before
+fit-before : {before : Items} {x : Item} → AllFitBytes (after before x) → AllFitBytes before
 fit-before (after-fit fit f) = fit
 
 -- an accepted trace without its last record is accepted, where a record is left

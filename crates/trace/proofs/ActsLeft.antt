@@ -11,7 +11,7 @@ use Rattle.lists.specs.Search.{All, nil, cons}
 use Rattle.event.specs.Event.{Act}
 use Rattle.trace.specs.Bytes.{AreBytes, number, bodySize}
 use Rattle.trace.specs.Item.{Item, shape, word, request, event, drain, kindOf, Items, none, after, size, recordSize, Records, done, next, records, recordsUpTo}
-use Rattle.trace.specs.Contents.{contents, add, actsOf, sectionOf, section, reached, stepsAt}
+use Rattle.trace.specs.Contents.{contents, add, actsOf, sectionOf, section, lastSection, actsAt}
 use Rattle.trace.specs.Refusals.{fault}
 use Rattle.trace.specs.Check.{accepted, check, Valid, valid-after}
 use Rattle.trace.specs.Write.{bytes, bodyOf, recordOf, traceOf}
@@ -24,7 +24,7 @@ use Rattle.trace.proofs.Answers.{Opened}
 use Rattle.trace.proofs.Numbers.{number-drop, number-bytes}
 use Rattle.trace.proofs.Written.{length-record, records-written}
 use Rattle.trace.proofs.Accept.{accepted-is, length-trace}
-use Rattle.trace.proofs.Ranges.{in-order, follow-low, accepted-sound}
+use Rattle.trace.proofs.Ranges.{in-order, follow-low, accepted-in-range}
 
 acts-written-more : (front : List Act) (a : Act) → actsWritten (front ++ (a ∷ [])) ≡ actsWritten front ++ recordOf (itemOf a)
 unfolding actsWritten
@@ -32,12 +32,12 @@ acts-written-more [] a = append-nil (recordOf (itemOf a))
 acts-written-more (b ∷ front) a = rw (acts-written-more front a) (sym (append-assoc (recordOf (itemOf b)) (actsWritten front) (recordOf (itemOf a))))
 
 -- before an item of the first three sections stand only such
-low-before : (before : Items) (x : Item) → fault before x ≡ 0 → section x < 4 → reached before < 4
-low-before before x f low = follow-low (reached before) (section x) (in-order before x f) low
+low-before : (before : Items) (x : Item) → fault before x ≡ 0 → section x < 4 → lastSection before < 4
+low-before before x f low = follow-low (lastSection before) (section x) (in-order before x f) low
 
 -- up to the first act there is none
-no-acts : (xs : Items) → Valid xs → reached xs < 4 → (stepsAt xs ≡ size xs) × (actsOf xs ≡ [])
-unfolding stepsAt size reached contents add sectionOf kindOf
+no-acts : (xs : Items) → Valid xs → lastSection xs < 4 → (actsAt xs ≡ size xs) × (actsOf xs ≡ [])
+unfolding actsAt size lastSection contents add sectionOf kindOf
 no-acts none v low = (refl, refl)
 no-acts (after before (shape s)) (valid-after v f) low =
     let i = no-acts before v (low-before before (shape s) f low) in (ap (λ (n : ℕ). n + recordSize (shape s)) (i .0), i .1)
@@ -50,26 +50,26 @@ no-acts (after before (drain rounds)) v low = let z : ⊥ = omega arith in elim 
 
 -- from the first act on there is nothing else
 record Split (xs : Items) : Type 0 where
-  inside : stepsAt xs ≤ length (traceOf xs)
-  acts-are : drop (stepsAt xs) (traceOf xs) ≡ actsWritten (actsOf xs)
+  inside : actsAt xs ≤ length (traceOf xs)
+  acts-are : drop (actsAt xs) (traceOf xs) ≡ actsWritten (actsOf xs)
 
-split-low : (xs : Items) → Valid xs → reached xs < 4 → Split xs
+split-low : (xs : Items) → Valid xs → lastSection xs < 4 → Split xs
 unfolding actsWritten
 split-low xs v low =
     let h = no-acts xs v low in
-    let at : stepsAt xs ≡ length (traceOf xs) = h .0 ∙ sym (length-trace xs) in
+    let at : actsAt xs ≡ length (traceOf xs) = h .0 ∙ sym (length-trace xs) in
     record { inside = omega arith; acts-are = rw (at, drop-length (traceOf xs), h .1) }
 
-split-act : (before : Items) (a : Act) → Split before → stepsAt (after before (itemOf a)) ≡ stepsAt before → actsOf (after before (itemOf a)) ≡ actsOf before ++ (a ∷ []) → Split (after before (itemOf a))
+split-act : (before : Items) (a : Act) → Split before → actsAt (after before (itemOf a)) ≡ actsAt before → actsOf (after before (itemOf a)) ≡ actsOf before ++ (a ∷ []) → Split (after before (itemOf a))
 unfolding traceOf
 split-act before a i same more = record {
   inside = omega (arith, i .inside, length-append (traceOf before) (recordOf (itemOf a)));
   acts-are =
-      rw (same, more, drop-append-le (stepsAt before) (traceOf before) (recordOf (itemOf a)) (i .inside), i .acts-are, acts-written-more (actsOf before) a);
+      rw (same, more, drop-append-le (actsAt before) (traceOf before) (recordOf (itemOf a)) (i .inside), i .acts-are, acts-written-more (actsOf before) a);
 }
 
 split-acts : (xs : Items) → Valid xs → Split xs
-unfolding stepsAt reached contents add sectionOf kindOf traceOf actsWritten
+unfolding actsAt lastSection contents add sectionOf kindOf traceOf actsWritten
 split-acts none v = record { inside = omega arith; acts-are = refl }
 split-acts (after before (shape s)) v = split-low (after before (shape s)) v (omega arith)
 split-acts (after before (word w)) v = split-low (after before (word w)) v (omega arith)
@@ -83,14 +83,14 @@ acts-fit (Act.event e ∷ front) (cons i is) = cons (i .fits) (acts-fit front is
 acts-fit (Act.drain rounds ∷ front) (cons i is) = cons i (acts-fit front is)
 
 -- at its first act all acts of an accepted trace are left
-pub left-start : (s : List ℕ) (xs : Items) → AreBytes s → check s ≡ accepted xs → Left s (stepsAt xs) (actsOf xs)
+pub left-start : (s : List ℕ) (xs : Items) → AreBytes s → check s ≡ accepted xs → Left s (actsAt xs) (actsOf xs)
 left-start s xs are e =
     let a = accepted-is s xs are e in
     let i = split-acts xs (a .valid) in
     record {
       inside = rw (a .bytes-are) (i .inside);
       bytes-are = rw (a .bytes-are) (i .acts-are);
-      fit = acts-fit (actsOf xs) (accepted-sound s xs are e .acts-in);
+      fit = acts-fit (actsOf xs) (accepted-in-range s xs are e .acts-in);
     }
 
 -- past an act the others are left
@@ -117,7 +117,7 @@ left-past (suc n) s at (a ∷ rest) l = rw (← (add-assoc at (actSize a) (actsS
 
 -- where the first n acts of an accepted trace have been passed, the others are left
 pub left-at : (s : List ℕ) (xs : Items) → AreBytes s → check s ≡ accepted xs → (n : ℕ) → Left s (actOffset xs n) (drop n (actsOf xs))
-left-at s xs are e n = left-past n s (stepsAt xs) (actsOf xs) (left-start s xs are e)
+left-at s xs are e n = left-past n s (actsAt xs) (actsOf xs) (left-start s xs are e)
 
 -- an act was read: it is the next, and past it the others are left
 pub record Next (s : List ℕ) (left : List Act) (a : Act) (at : ℕ) : Type 0 where
@@ -220,5 +220,5 @@ left-same s at (a ∷ l) (b ∷ m) x y =
     item-same h = cc
 
 -- at the offset that an accepted trace is told all its acts are left
-pub opened-left : {s : List ℕ} {facts : Facts} {words table : List ℕ} → AreBytes s → (o : Opened s facts words table) → Left s (facts .steps) (actsOf (o .items))
-opened-left {s} are o = rw (ap (λ (f : Facts). f .steps) (o .facts-are)) (left-start s (o .items) are (o .accepts))
+pub opened-left : {s : List ℕ} {facts : Facts} {words m : List ℕ} → AreBytes s → (o : Opened s facts words m) → Left s (facts .«acts_at») (actsOf (o .items))
+opened-left {s} are o = rw (ap (λ (f : Facts). f .«acts_at») (o .facts-are)) (left-start s (o .items) are (o .accepts))

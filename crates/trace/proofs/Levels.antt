@@ -11,8 +11,9 @@ use lib.ListN.{getD}
 use lib.Dec.{eqb, leb, ltb, leb·suc-suc}
 use borrow.Author.Tests.{lt-ltb, le-ltb, le-leb, lt-leb, eq-eqb, ne-eqb, ltb-true}
 use Rattle.lists.specs.Choice.{both}
+use Rattle.lists.proofs.Tests.{by-cases}
 use Rattle.event.specs.Event.{Event, levelFits, namesStep}
-use Rattle.trace.proofs.Tests.{by-cases, both-true, clash}
+use Rattle.trace.proofs.Tests.{both-true, clash}
 
 -- the last of the widths
 pub four-left : (k : ℕ) → k ≤ 4 → k ≢ 0 → k ≢ 1 → k ≢ 2 → k ≢ 3 → k ≡ 4

@@ -1,6 +1,6 @@
 -- Numbers written in bytes, and read back.
 use Prim.Native.Nat.{ℕ, zero, suc, _+_, _*_, _/_, _%_, _≤_, _<_, _^_}
-use mathlib.Core.Path.{_≡_, refl, ap}
+use mathlib.Core.Path.{_≡_, refl, ap, _∙_}
 use mathlib.Core.List.{List, [], _∷_, _++_, append-assoc}
 use native.Mathlib.Omega.{arith}
 use native.Mathlib.Nat.{pow-succ', zero-add, add-zero, add-suc, suc-add, mul-assoc}
@@ -8,9 +8,11 @@ use native.Mathlib.Numerals.{add-one}
 use native.Mathlib.Decide.{decLt}
 use lib.ListN.{length, getD, take, drop, length-append, length-take, List·getD-eq-default}
 use lib.Seq.{getD-append-seam, getD-drop, getD-take, drop-cons}
+use Rattle.lists.proofs.Tests.{by-cases}
+use Rattle.words.specs.Digits.{byteIn}
+use Rattle.words.proofs.Digits.{digit-zero, digit-suc}
 use Rattle.trace.specs.Bytes.{AreBytes, number}
 use Rattle.trace.specs.Write.{bytes}
-use Rattle.trace.proofs.Tests.{by-cases}
 
 pub bytes-drop : {s : List ℕ} → AreBytes s → (n : ℕ) → AreBytes (drop n s)
 bytes-drop {s} b n = record { below = λ i. rw (getD-drop n s i 0) (b .below (n + i)) }
@@ -40,6 +42,16 @@ pub number-below : {s : List ℕ} → AreBytes s → (n i : ℕ) → number n s 
 unfolding number
 number-below b zero i = omega arith
 number-below b (suc n) i = omega (arith, pow-succ' 256 n, b .below i, number-below b n (suc i))
+
+-- one byte of a number that is read
+pub byte-number : {s : List ℕ} → AreBytes s → (count i j : ℕ) → j < count → byteIn (number count s i) j ≡ getD s (i + j) 0
+unfolding number
+byte-number are zero i j l = absurd (omega arith)
+byte-number {s} are (suc count) i zero l = digit-zero 8 (number (suc count) s i) ∙ rw add-zero (omega (arith, are .below i))
+byte-number {s} are (suc count) i (suc j) l =
+    let e : number (suc count) s i / 256 ≡ number count s (suc i) = omega (arith, are .below i) in
+    let m : suc i + j ≡ i + suc j = omega arith in
+    digit-suc 8 (number (suc count) s i) j ∙ rw (e, ← m) (byte-number are count (suc i) j (omega arith))
 
 pub length-bytes : (n v : ℕ) → length (bytes n v) ≡ n
 unfolding bytes

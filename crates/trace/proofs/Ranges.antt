@@ -13,12 +13,12 @@ use Rattle.lists.specs.Search.{All, nil, cons}
 use Rattle.event.specs.Event.{Event, namesStep}
 use Rattle.trace.specs.Bytes.{AreBytes}
 use Rattle.trace.specs.Item.{Shape, Request, Item, shape, word, request, event, drain, kindOf, Items, none, after}
-use Rattle.trace.specs.Contents.{contents, add, shapeOf, wordsOf, requestsOf, actsOf, sectionOf, section, reached}
+use Rattle.trace.specs.Contents.{contents, add, shapeOf, wordsGiven, requestsOf, actsOf, sectionOf, section, lastSection}
 use Rattle.operation.specs.Operation.{operandsFit}
 use Rattle.trace.specs.Refusals.{mayFollow, shapeFits, requestFits, ownFault, fault}
 use Rattle.trace.specs.Check.{accepted, check, Valid, valid-after}
-use Rattle.trace.specs.Write.{WordBytes, RequestBytes, EventBytes, AllFit, after-fit}
-use Rattle.trace.specs.Ranges.{ShapeIn, RequestIn, EventIn, ActIn, Sound}
+use Rattle.trace.specs.Write.{WordBytes, RequestBytes, EventBytes, AllFitBytes, after-fit}
+use Rattle.trace.specs.Ranges.{ShapeIn, RequestIn, EventIn, ActIn, InRange}
 use Rattle.trace.proofs.Tests.{clash, both-true, unless-zero, or-else-zero}
 use Rattle.trace.proofs.Accept.{Accepted, accepted-is}
 
@@ -27,13 +27,13 @@ all-more nil p = cons p nil
 all-more (cons q qs) p = cons q (all-more qs p)
 
 -- an item that is not refused may follow, and has no fault of its own
-pub in-order : (before : Items) (x : Item) → fault before x ≡ 0 → mayFollow (reached before) (section x) ≡ true
+pub in-order : (before : Items) (x : Item) → fault before x ≡ 0 → mayFollow (lastSection before) (section x) ≡ true
 unfolding fault
-in-order before x h = unless-zero (mayFollow (reached before) (section x)) 3 (or-else-zero _ _ h .0)
+in-order before x h = unless-zero (mayFollow (lastSection before) (section x)) 3 (or-else-zero _ _ h .0)
 
-pub own-sound : (before : Items) (x : Item) → fault before x ≡ 0 → ownFault (contents before) x ≡ 0
+pub own-clean : (before : Items) (x : Item) → fault before x ≡ 0 → ownFault (contents before) x ≡ 0
 unfolding fault
-own-sound before x h = or-else-zero _ _ h .1
+own-clean before x h = or-else-zero _ _ h .1
 
 -- behind a section of the first three stand only such
 pub follow-low : (last s : ℕ) → mayFollow last s ≡ true → s < 4 → last < 4
@@ -69,11 +69,11 @@ section-some (request r) = λ e. omega arith
 section-some (event e) = λ z. omega arith
 section-some (drain rounds) = λ e. omega arith
 
-has-shape : (before : Items) (x : Item) → fault before x ≡ 0 → section x ≢ 1 → reached before ≢ 0
-has-shape before x f other = follow-some (reached before) (section x) (in-order before x f) other
+has-shape : (before : Items) (x : Item) → fault before x ≡ 0 → section x ≢ 1 → lastSection before ≢ 0
+has-shape before x f other = follow-some (lastSection before) (section x) (in-order before x f) other
 
-shape-first : (before : Items) (s : Shape) → fault before (shape s) ≡ 0 → before ≡ none
-unfolding reached sectionOf kindOf
+pub shape-first : (before : Items) (s : Shape) → fault before (shape s) ≡ 0 → before ≡ none
+unfolding lastSection sectionOf kindOf
 shape-first none s h = refl
 shape-first (after before x) s h = absurd (section-some x (follow-none (section x) (in-order (after before x) (shape s) h)))
 
@@ -92,42 +92,48 @@ shape-in s h =
       w-most = leb-true (s .w) 8 (qs .1);
     }
 
-pub shape-sound : (before : Items) (s : Shape) → fault before (shape s) ≡ 0 → ShapeIn s
+pub shape-in-range : (before : Items) (s : Shape) → fault before (shape s) ≡ 0 → ShapeIn s
 unfolding ownFault
-shape-sound before s h = shape-in s (unless-zero (shapeFits s) 4 (own-sound before (shape s) h))
+shape-in-range before s h = shape-in s (unless-zero (shapeFits s) 4 (own-clean before (shape s) h))
 
 pub requests-few : (before : Items) (r : Request) → fault before (request r) ≡ 0 → length (requestsOf before) < 256
 unfolding ownFault
 requests-few before r h =
-    ltb-true (length (requestsOf before)) 256 (unless-zero (ltb (length (requestsOf before)) 256) 8 (or-else-zero _ _ (own-sound before (request r) h) .0))
+    ltb-true (length (requestsOf before)) 256 (unless-zero (ltb (length (requestsOf before)) 256) 8 (or-else-zero _ _ (own-clean before (request r) h) .0))
+
+fitting : (before : Items) (r : Request) → fault before (request r) ≡ 0 → (r .engine < 2 ^ shapeOf before .k) × (operandsFit (r .operation) (r .first) (r .second) ≡ true)
+unfolding ownFault requestFits
+fitting before r h =
+    let right = unless-zero (requestFits (shapeOf before .k) r) 6 (or-else-zero _ _ (own-clean before (request r) h) .1) in
+    let parts = both-true (ltb (r .engine) (2 ^ shapeOf before .k)) (operandsFit (r .operation) (r .first) (r .second)) right in
+    (ltb-true (r .engine) (2 ^ shapeOf before .k) (parts .0), parts .1)
+
+pub engine-below : (before : Items) (r : Request) → fault before (request r) ≡ 0 → r .engine < 2 ^ shapeOf before .k
+engine-below before r h = fitting before r h .0
 
 request-in : (before : Items) (r : Request) → RequestBytes r → fault before (request r) ≡ 0 → RequestIn (shapeOf before .k) r
-unfolding ownFault requestFits
-request-in before r fits h =
-    let right = unless-zero (requestFits (shapeOf before .k) r) 6 (or-else-zero _ _ (own-sound before (request r) h) .1) in
-    let parts = both-true (ltb (r .engine) (2 ^ shapeOf before .k)) (operandsFit (r .operation) (r .first) (r .second)) right in
-    record { fits = fits; engine-below = ltb-true (r .engine) (2 ^ shapeOf before .k) (parts .0); operands = parts .1 }
+request-in before r fits h = record { fits = fits; engine-below = fitting before r h .0; operands = fitting before r h .1 }
 
 event-in : (before : Items) (e : Event) → EventBytes e → fault before (event e) ≡ 0 → EventIn (shapeOf before .k) e
 unfolding ownFault
-event-in before e fits h = record { fits = fits; names = unless-zero (namesStep (shapeOf before .k) e) 7 (own-sound before (event e) h) }
+event-in before e fits h = record { fits = fits; names = unless-zero (namesStep (shapeOf before .k) e) 7 (own-clean before (event e) h) }
 
 -- the same of items that need not have a shape yet
 record Within (xs : Items) : Type 0 where
-  shaped : reached xs ≢ 0 → ShapeIn (shapeOf xs)
-  words-in : All WordBytes (wordsOf xs)
+  shaped : lastSection xs ≢ 0 → ShapeIn (shapeOf xs)
+  words-in : All WordBytes (wordsGiven xs)
   few : length (requestsOf xs) ≤ 256
   requests-in : All (RequestIn (shapeOf xs .k)) (requestsOf xs)
   acts-in : All (ActIn (shapeOf xs .k)) (actsOf xs)
 
-within : (xs : Items) → Valid xs → AllFit xs → Within xs
-unfolding contents add reached sectionOf kindOf
+within : (xs : Items) → Valid xs → AllFitBytes xs → Within xs
+unfolding contents add lastSection sectionOf kindOf
 within none v fit = record { shaped = λ n. absurd (n refl); words-in = nil; few = omega arith; requests-in = nil; acts-in = nil }
 within (after before (shape s)) (valid-after v f) (after-fit fit fits) =
     let i = within before v fit in
     let first = shape-first before s f in
     record {
-      shaped = λ n. shape-sound before s f;
+      shaped = λ n. shape-in-range before s f;
       words-in = i .words-in;
       few = i .few;
       requests-in = subst (λ (b : Items). All (RequestIn (s .k)) (requestsOf b)) (sym first) nil;
@@ -171,11 +177,11 @@ within (after before (drain rounds)) (valid-after v f) (after-fit fit fits) =
     }
 
 -- of every accepted trace
-pub accepted-sound : (s : List ℕ) (xs : Items) → AreBytes s → check s ≡ accepted xs → Sound xs
-unfolding reached
-accepted-sound s xs are e = go xs (accepted-is s xs are e)
+pub accepted-in-range : (s : List ℕ) (xs : Items) → AreBytes s → check s ≡ accepted xs → InRange xs
+unfolding lastSection
+accepted-in-range s xs are e = go xs (accepted-is s xs are e)
   where
-    go : (ys : Items) → Accepted s ys → Sound ys
+    go : (ys : Items) → Accepted s ys → InRange ys
     go none a = absurd (a .some refl)
     go (after before x) a =
         let w = within (after before x) (a .valid) (a .fit) in

@@ -12,11 +12,12 @@ use lib.Seq.{drop-drop, length-take-le}
 use lib.Dec.{eqb, ltb}
 use borrow.Author.Tests.{le-ltb, eq-eqb, ne-eqb, eqb-true, eqb-false, ltb-false}
 use Rattle.lists.specs.Choice.{choose}
+use Rattle.lists.proofs.Tests.{by-cases}
 use Rattle.trace.specs.Bytes.{number, bodySize, Split, nothing, faulty, whole, split}
 use Rattle.trace.specs.Item.{shape, word, request, event, drain, shapeIn, wordIn, requestIn, eventIn, kindOf, item, recordSize, Records, done, broken, next, cut, recordsUpTo, records}
 use Rattle.trace.specs.Contents.{sectionOf, section}
 use Rattle.trace.specs.Answers.{RecordFits}
-use Rattle.trace.proofs.Tests.{by-cases, clash}
+use Rattle.trace.proofs.Tests.{clash}
 use Rattle.trace.proofs.Numbers.{number-drop}
 
 -- a kind that has a body is one of the five

@@ -1,5 +1,5 @@
 -- A run of acts that are not refused: past it the rest of the trace decides, as before.
-use Prim.Native.Nat.{ℕ, _+_, _*_, _≤_, _<_}
+use Prim.Native.Nat.{ℕ, _+_, _*_, _%_, _≤_, _<_}
 use mathlib.Core.Path.{_≡_, refl, ap, sym, _∙_}
 use mathlib.Core.List.{List}
 use mathlib.Core.Bool.{Bool, true, false}
@@ -12,16 +12,18 @@ use lib.Seq.{drop-drop, getD-take, getD-drop}
 use Rattle.event.specs.Event.{Event, Act, namesStep}
 use Rattle.trace.specs.Bytes.{AreBytes, number, bodySize}
 use Rattle.trace.specs.Item.{Shape, event, drain, kindOf, item, eventIn, recordSize, Items, after, size, next, records}
-use Rattle.trace.specs.Contents.{shapeOf, sectionOf, section, reached}
+use Rattle.trace.specs.Contents.{shapeOf, sectionOf, section, lastSection}
 use Rattle.trace.specs.Refusals.{fault, orElse, mayFollow, ownFault}
-use Rattle.trace.specs.Check.{decide, judge}
+use Rattle.trace.specs.Check.{decide, checkRecords}
 use Rattle.trace.specs.Acts.{itemOf, actSize}
 use Rattle.trace.specs.Loop.{Same, Passed, DrainsPassed, FourDrains, Onward}
+use Rattle.trace.specs.Masked.{Mask, Steps, TellsEvent}
 use Rattle.trace.specs.declared.progress.Progress.{Progress}
 use Rattle.trace.proofs.Tests.{clash}
 use Rattle.trace.proofs.Numbers.{number-drop, number-join, number-below}
 use Rattle.trace.proofs.Records.{Whole, is-whole, body-long, records-whole}
-use Rattle.trace.proofs.Known.{act-same, act-section, known-same, holds-same}
+use Rattle.trace.proofs.Events.{header-of, event-stands}
+use Rattle.trace.proofs.Known.{act-same, act-section, known-same, loaded-same}
 
 -- acts, one by one
 pub passed-start : (s : List ℕ) (k at : ℕ) → at ≤ length s → Passed s k at at
@@ -30,8 +32,8 @@ passed-start s k at h = record {
   inside = h;
   run = λ before section-is k-is. record {
     all = before;
-    same = record { shape-is = refl; words-are = refl; requests-are = refl; steps-is = refl };
-    reached-is = section-is;
+    same = record { shape-is = refl; words-are = refl; requests-are = refl; acts-at-is = refl };
+    last-is = section-is;
     size-is = refl;
     verdict = refl;
   };
@@ -42,24 +44,24 @@ same-then a b = record {
   shape-is = a .shape-is ∙ b .shape-is;
   words-are = a .words-are ∙ b .words-are;
   requests-are = a .requests-are ∙ b .requests-are;
-  steps-is = a .steps-is ∙ b .steps-is;
+  acts-at-is = a .acts-at-is ∙ b .acts-at-is;
 }
 
 -- past an act that is not refused
 passed-act : {s : List ℕ} {k at end : ℕ} → Passed s k at end → (a : Act) → end + actSize a ≤ length s →
     records (drop end s) ≡ next (itemOf a) (records (drop (end + actSize a) s)) →
-    ((before : Items) → reached before ≡ 4 → shapeOf before .k ≡ k → fault before (itemOf a) ≡ 0) → Passed s k at (end + actSize a)
-unfolding size judge decide reached
+    ((before : Items) → lastSection before ≡ 4 → shapeOf before .k ≡ k → fault before (itemOf a) ≡ 0) → Passed s k at (end + actSize a)
+unfolding size checkRecords decide lastSection
 passed-act {s} {k} {at} {end} p a inside stands sound = record {
   onward = omega (arith, p .onward);
   inside = inside;
   run = λ before section-is k-is.
       let r = p .run before section-is k-is in
-      let none-found = sound (r .all) (r .reached-is) (sym (ap (λ (s : Shape). s .k) (r .same .shape-is)) ∙ k-is) in
+      let none-found = sound (r .all) (r .last-is) (sym (ap (λ (s : Shape). s .k) (r .same .shape-is)) ∙ k-is) in
       record {
         all = after (r .all) (itemOf a);
         same = same-then (r .same) (act-same (r .all) a);
-        reached-is = act-section a;
+        last-is = act-section a;
         size-is = omega (arith, r .size-is);
         verdict = r .verdict ∙ rw (stands, none-found);
       };
@@ -86,13 +88,13 @@ body-byte : (s : List ℕ) (i n j at : ℕ) → j < n → i + j ≡ at → getD 
 body-byte s i n j at low e = getD-take n (drop i s) j 0 low ∙ getD-drop i s j 0 ∙ ap (λ (m : ℕ). getD s m 0) e
 
 -- a drain is never refused, and an event that names a step is not, where acts may stand
-drain-sound : (before : Items) (rounds : ℕ) → reached before ≡ 4 → fault before (drain rounds) ≡ 0
+drain-clean : (before : Items) (rounds : ℕ) → lastSection before ≡ 4 → fault before (drain rounds) ≡ 0
 unfolding fault mayFollow orElse sectionOf kindOf ownFault
-drain-sound before rounds h = rw h
+drain-clean before rounds h = rw h
 
-event-sound : (before : Items) (e : Event) → reached before ≡ 4 → namesStep (shapeOf before .k) e ≡ true → fault before (event e) ≡ 0
+event-clean : (before : Items) (e : Event) → lastSection before ≡ 4 → namesStep (shapeOf before .k) e ≡ true → fault before (event e) ≡ 0
 unfolding fault mayFollow orElse sectionOf kindOf ownFault
-event-sound before e h names = rw (h, names)
+event-clean before e h names = rw (h, names)
 
 module _ {s : List ℕ} {k at end : ℕ} (are : AreBytes s) (p : Passed s k at end) where
   pub passed-drain : end + 6 ≤ length s → number 4 s end ≡ 327682 → Passed s k at (end + 6)
@@ -100,9 +102,9 @@ module _ {s : List ℕ} {k at end : ℕ} (are : AreBytes s) (p : Passed s k at e
   passed-drain inside header =
       passed-act p (Act.drain (number 2 (take 2 (drop (end + 4) s)) 0)) inside
       (record-stands are end 5 (omega arith) (omega arith) header (omega arith))
-      (λ before section-is k-is. drain-sound before _ section-is)
+      (λ before section-is k-is. drain-clean before _ section-is)
 
-  pub passed-event : end + 7 ≤ length s → number 4 s end ≡ 262147 →
+  passed-event : end + 7 ≤ length s → number 4 s end ≡ 262147 →
       namesStep k (record { what = getD s (end + 4) 0; level = getD s (end + 5) 0; position = getD s (end + 6) 0 }) ≡ true → Passed s k at (end + 7)
   unfolding item bodySize recordSize kindOf
   passed-event inside header names =
@@ -112,9 +114,19 @@ module _ {s : List ℕ} {k at end : ℕ} (are : AreBytes s) (p : Passed s k at e
       let position : getD body 2 0 ≡ getD s (end + 6) 0 = body-byte s (end + 4) 3 2 (end + 6) (omega arith) (omega arith) in
       passed-act p (Act.event (eventIn body)) inside
       (record-stands are end 4 (omega arith) (omega arith) header (omega arith))
-      (λ before section-is k-is. event-sound before (eventIn body) section-is (rw (k-is, what, level, position) names))
+      (λ before section-is k-is. event-clean before (eventIn body) section-is (rw (k-is, what, level, position) names))
 
--- ---- drains, four at a stride
+  -- the same of eight bytes that are read at once
+  pub passed-told : end + 8 ≤ length s → {w fixed named : ℕ} {r : Bool} → w ≡ number 8 s end → k ≤ 4 → Mask k fixed → Steps k named →
+      TellsEvent w fixed named r → r ≡ true → Passed s k at (end + 7)
+  passed-told inside e low mask steps told so =
+      let stands = event-stands are end k (rw (← e) (sym (told .tells k low mask steps) ∙ so)) in
+      passed-event (omega arith) (stands .0) (stands .1)
+
+  pub passed-header : end + 8 ≤ length s → {w : ℕ} → w ≡ number 8 s end → w % 4294967296 ≡ 327682 → Passed s k at (end + 6)
+  passed-header inside e header = passed-drain (omega arith) (sym (header-of are end) ∙ ap (λ (n : ℕ). n % 4294967296) (sym e) ∙ header)
+
+-- ---- drains, eight at a stride
 pub not-four : {s : List ℕ} {i : ℕ} → FourDrains s i false
 not-four = record { headers = λ e. clash (cc) }
 
@@ -124,7 +136,7 @@ four-told a b c n d = record { headers = λ e. (a, b, c, sym d ∙ eqb-true n 32
 pub drains-start : (s : List ℕ) (at : ℕ) → at ≤ length s → DrainsPassed s at at
 drains-start s at h = record { passed = λ k. passed-start s k at h }
 
-pub passed-four : {s : List ℕ} {at i : ℕ} → AreBytes s → DrainsPassed s at i → i + 24 ≤ length s → {b : Bool} → FourDrains s i b → b ≡ true → DrainsPassed s at (i + 24)
+passed-four : {s : List ℕ} {at i : ℕ} → AreBytes s → DrainsPassed s at i → i + 24 ≤ length s → {b : Bool} → FourDrains s i b → b ≡ true → DrainsPassed s at (i + 24)
 passed-four {s} {at} {i} are p inside f e =
     let h = f .headers e in
     let e2 : i + 6 + 6 ≡ i + 12 = omega arith in
@@ -138,6 +150,12 @@ passed-four {s} {at} {i} are p inside f e =
           rw e4 at (passed-drain are p3 (omega arith) (h .3));
     }
 
+pub passed-eight : {s : List ℕ} {at i : ℕ} → AreBytes s → DrainsPassed s at i → i + 48 ≤ length s → {b c : Bool} → FourDrains s i b → b ≡ true → FourDrains s (i + 24) c → c ≡ true →
+    DrainsPassed s at (i + 48)
+passed-eight {s} {at} {i} are p inside f b g c =
+    let e : i + 24 + 24 ≡ i + 48 = omega arith in
+    rw e at (passed-four are (passed-four are p (omega arith) f b) (omega arith) g c)
+
 -- one run of acts behind another
 pub passed-then : {s : List ℕ} {k at mid end : ℕ} → Passed s k at mid → Passed s k mid end → Passed s k at end
 passed-then p q = record {
@@ -145,11 +163,11 @@ passed-then p q = record {
   inside = q .inside;
   run = λ before section-is k-is.
       let r = p .run before section-is k-is in
-      let t = q .run (r .all) (r .reached-is) (sym (ap (λ (s : Shape). s .k) (r .same .shape-is)) ∙ k-is) in
+      let t = q .run (r .all) (r .last-is) (sym (ap (λ (s : Shape). s .k) (r .same .shape-is)) ∙ k-is) in
       record {
         all = t .all;
         same = same-then (r .same) (t .same);
-        reached-is = t .reached-is;
+        last-is = t .last-is;
         size-is = omega (arith, r .size-is, t .size-is);
         verdict = r .verdict ∙ t .verdict;
       };
@@ -157,30 +175,29 @@ passed-then p q = record {
 
 -- the loop goes on behind a run of acts
 pub onward-run : (s : List ℕ) (p : Progress) (end : ℕ) → Passed s (p .k) (p .at) end → p .section ≡ 4 →
-    Onward s p (record { at = end; section = p .section; k = p .k; q = p .q; w = p .w; requests = p .requests; steps = p .steps })
+    Onward s p (record { at = end; section = p .section; k = p .k; q = p .q; w = p .w; requests = p .requests; «acts_at» = p .«acts_at» })
 onward-run s p end passed section-is = record {
   onward = passed .onward;
-  inside = λ marks words table i.
+  inside = λ marks words m i.
       let so = i .so-far in
       let r = passed .run (so .before) (sym (so .known .section-is) ∙ section-is) (sym (so .known .k-is)) in
       record {
         short = i .short;
         at-inside = passed .inside;
         room = record {
-          steps-low = omega (arith, i .room .steps-low, passed .onward);
+          acts-at-low = omega (arith, i .room .acts-at-low, passed .onward);
           requests-low = i .room .requests-low;
           marks-size = i .room .marks-size;
           words-size = i .room .words-size;
-          table-size = i .room .table-size;
         };
         so-far = record {
           before = r .all;
-          known = known-same (r .same) (so .known) (omega (arith, r .size-is, so .known .at-is)) (section-is ∙ sym (r .reached-is)) refl refl refl refl refl;
-          holds = holds-same (r .same) (so .holds);
+          known = known-same (r .same) (so .known) (omega (arith, r .size-is, so .known .at-is)) (section-is ∙ sym (r .last-is)) refl refl refl refl refl;
+          loaded = loaded-same (r .same) (so .loaded);
           verdict = so .verdict ∙ r .verdict;
         };
       };
 }
 
 pub onward-same : (s : List ℕ) (p : Progress) → Onward s p p
-onward-same s p = record { onward = omega arith; inside = λ marks words table i. i }
+onward-same s p = record { onward = omega arith; inside = λ marks words m i. i }

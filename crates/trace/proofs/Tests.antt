@@ -7,10 +7,6 @@ use lib.Dec.{eqb}
 use Rattle.lists.specs.Choice.{choose, both}
 use Rattle.trace.specs.Refusals.{unless, orElse}
 
-pub by-cases : {P G : Type 0} → Dec P → (P → G) → (¬ P → G) → G
-by-cases (yes p) f g = f p
-by-cases (no n) f g = g n
-
 -- 0 and 1 differ
 pub clash : {G : Type 0} → _≡_ {A = ℕ} 0 1 → G
 clash z = let f : ⊥ = omega arith in elim f [ ]

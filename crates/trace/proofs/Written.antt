@@ -7,7 +7,7 @@ use lib.ListN.{length, getD, take, drop, length-append, length-drop, take-append
 use lib.Seq.{take-add, drop-drop, take-at, drop-at, drop-cons, take-all}
 use Rattle.trace.specs.Bytes.{AreBytes, number, bodySize, Split, nothing, faulty, whole, split}
 use Rattle.trace.specs.Item.{Item, shape, word, request, event, drain, kindOf, item, recordSize, Records, next, cut, records}
-use Rattle.trace.specs.Write.{bytes, bodyOf, recordOf, Fits}
+use Rattle.trace.specs.Write.{bytes, bodyOf, recordOf, FitsBytes}
 use Rattle.trace.proofs.Tests.{clash}
 use Rattle.trace.proofs.Numbers.{bytes-drop, bytes-take, number-below, length-bytes, bytes-number, number-bytes}
 use Rattle.trace.proofs.Records.{by-kind, kind-item, records-cut, records-whole, Whole, whole-is, is-whole, body-long}
@@ -44,7 +44,7 @@ kind-low (event e) = (omega arith, omega arith)
 kind-low (drain rounds) = (omega arith, omega arith)
 
 -- the body of an item says that item
-pub item-body : (x : Item) → Fits x → item (kindOf x) (bodyOf x) ≡ x
+pub item-body : (x : Item) → FitsBytes x → item (kindOf x) (bodyOf x) ≡ x
 unfolding item kindOf bodyOf number bytes
 item-body (shape s) fits = refl
 item-body (word w) fits = rw (number-bytes 8 (w .value) (w .address ∷ []) [] (fits .value-low))
@@ -67,7 +67,7 @@ whole-record x back = record {
 }
 
 -- what is written is read back
-pub records-written : (x : Item) → Fits x → (back : List ℕ) → records (recordOf x ++ back) ≡ next x (records back)
+pub records-written : (x : Item) → FitsBytes x → (back : List ℕ) → records (recordOf x ++ back) ≡ next x (records back)
 unfolding recordSize
 records-written x fits back =
     let w = whole-record x back in
@@ -101,9 +101,9 @@ module _ {b : List ℕ} (are : AreBytes b) where
       three : length b ≡ 3 → getD b 0 0 ∷ getD b 1 0 ∷ getD b 2 0 ∷ [] ≡ b
       three long = rw (← (drop-of-length-le b {i = 3} (omega arith))) (three-bytes b (omega arith))
 
-  pub fits-item : (kind : ℕ) → 0 < bodySize kind → Fits (item kind b)
+  pub fits-item : (kind : ℕ) → 0 < bodySize kind → FitsBytes (item kind b)
   unfolding item
-  fits-item = by-kind (λ (n : ℕ). Fits (item n b))
+  fits-item = by-kind (λ (n : ℕ). FitsBytes (item n b))
       (record { k-low = are .below 0; q-low = are .below 1; w-low = are .below 2 })
       (record { address-low = are .below 0; value-low = number-below are 8 1 })
       (record { engine-low = are .below 0; operation-low = are .below 1; address-low = are .below 2; first-low = number-below are 8 3; second-low = number-below are 8 11 })
@@ -127,7 +127,7 @@ pub record First (s : List ℕ) (x : Item) (rest : Records) : Type 0 where
   pub back : List ℕ
   pub bytes-are : s ≡ recordOf x ++ back
   pub are : AreBytes back
-  pub fits : Fits x
+  pub fits : FitsBytes x
   pub rest-is : rest ≡ records back
 
 pub first-of : {s : List ℕ} → AreBytes s → (x : Item) (rest : Records) → records s ≡ next x rest → First s x rest

@@ -6,8 +6,8 @@ use lib.ListN.{length, take, drop}
 use Rattle.lists.specs.Search.{All}
 use Rattle.event.specs.Event.{Act}
 use Rattle.trace.specs.Item.{Item, event, drain, recordSize, Items}
-use Rattle.trace.specs.Contents.{actsOf, stepsAt}
-use Rattle.trace.specs.Write.{recordOf, Fits}
+use Rattle.trace.specs.Contents.{actsOf, actsAt}
+use Rattle.trace.specs.Write.{recordOf, FitsBytes}
 use Rattle.trace.specs.declared.acts.Due.{Due}
 use Rattle.trace.specs.declared.acts.Due.the-variants.{End, Event, Drain}
 
@@ -27,11 +27,11 @@ actsSize (a ∷ rest) = actSize a + actsSize rest
 
 -- the offset where the first n acts have been passed
 abbrev pub actOffset : Items → ℕ → ℕ
-actOffset xs n = stepsAt xs + actsSize (take n (actsOf xs))
+actOffset xs n = actsAt xs + actsSize (take n (actsOf xs))
 
 -- its fields fit their bytes
 abbrev pub ActFits : Act → Type 0
-ActFits a = Fits (itemOf a)
+ActFits a = FitsBytes (itemOf a)
 
 -- the records of acts, one after another
 unfoldable pub actsWritten : List Act → List ℕ

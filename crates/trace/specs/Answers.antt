@@ -6,7 +6,10 @@ use lib.ListN.{length, getD, take, drop}
 use Rattle.lists.specs.Choice.{choose}
 use Rattle.trace.specs.Bytes.{Split, nothing, faulty, whole, bodySize, split}
 use Rattle.trace.specs.Item.{Items, size}
-use Rattle.trace.specs.Contents.{shapeOf, wordsOf, requestsOf, given, startWords, requestTable, stepsAt}
+use Rattle.store.specs.Layout.{size as machineSize}
+use Rattle.store.specs.Memory.{view}
+use Rattle.trace.specs.Contents.{shapeOf, wordsGiven, requestsOf, given, startWords, actsAt}
+use Rattle.trace.specs.Machine.{RequestsHeld}
 use Rattle.trace.specs.Check.{Verdict, refused, accepted, itemsOf, check}
 use Rattle.trace.specs.declared.Fault.{Fault}
 use Rattle.trace.specs.declared.Fault.the-variants.{Cut, Kind, Length, Order, Range, Twice, Operand, Step, Many, Long}
@@ -53,27 +56,28 @@ pub record HeadRead (s : List ℕ) (at : ℕ) (r : Head) : Type 0 where
   pub fits : HeadFits (length s) at r
 
 -- what a trace is told: a number and an offset, or that it is accepted, and what it says of itself
-pub data Told : Type 0 where
-  refusal : ℕ → ℕ → Told
-  acceptance : Facts → Told
+pub data Answered : Type 0 where
+  refusal : ℕ → ℕ → Answered
+  acceptance : Facts → Answered
 
 -- k, Q, W, R and the offset of the first act
 abbrev pub factsOf : Items → Facts
-factsOf xs = record { k = shapeOf xs .k; q = shapeOf xs .q; w = shapeOf xs .w; requests = length (requestsOf xs); steps = stepsAt xs }
+factsOf xs = record { k = shapeOf xs .k; q = shapeOf xs .q; w = shapeOf xs .w; requests = length (requestsOf xs); «acts_at» = actsAt xs }
 
 -- "The answer is the number and the offset of the faulty record's first byte; for 10 .. and an empty trace the offset is 0"
-abbrev pub told : Verdict → Told
-told (refused n before) = refusal n (size before)
-told (accepted xs) = acceptance (factsOf xs)
+abbrev pub answered : Verdict → Answered
+answered (refused n before) = refusal n (size before)
+answered (accepted xs) = acceptance (factsOf xs)
 
 -- this paper's number and values of the code's answer
-abbrev pub says : Answer → Told
-says (Refused f at) = refusal (numberOf f) at
-says (Accepted facts) = acceptance facts
+abbrev pub tells : Answer → Answered
+tells (Refused f at) = refusal (numberOf f) at
+tells (Accepted facts) = acceptance facts
 
--- the answer, and the marks, the memory and the table after a trace is loaded: those of the items before the fault, where there is one
-pub record Loaded (s : List ℕ) (r : Answer) (marks words table : List ℕ) : Type 0 where
-  pub answer : says r ≡ told (check s)
-  pub marks-are : (a : ℕ) → a < 256 → getD marks a 0 ≡ choose (given (wordsOf (itemsOf (check s))) a) 1 0
-  pub words-are : words ≡ startWords (wordsOf (itemsOf (check s)))
-  pub table-is : table ≡ requestTable (requestsOf (itemsOf (check s)))
+-- the answer, and the marks, the memory and the machine m after a trace is loaded: those of the items before the fault, where there is one
+pub record Loaded (s : List ℕ) (r : Answer) (marks words m : List ℕ) : Type 0 where
+  pub answer : tells r ≡ answered (check s)
+  pub marks-are : (a : ℕ) → a < 256 → getD marks a 0 ≡ choose (given (wordsGiven (itemsOf (check s))) a) 1 0
+  pub words-are : words ≡ startWords (wordsGiven (itemsOf (check s)))
+  pub sized : length m ≡ machineSize
+  pub requests-are : RequestsHeld (shapeOf (itemsOf (check s)) .k) (requestsOf (itemsOf (check s))) (view m)

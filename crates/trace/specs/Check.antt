@@ -29,14 +29,14 @@ decide zero before rest = rest
 decide (suc n) before rest = refused (suc n) before
 
 -- "record by record, the first faulty record deciding": the items before, and the records that follow
-unfoldable pub judge : Items → Records → Verdict
-judge before done = ended before
-judge before (broken n) = refused n before
-judge before (next x rest) = decide (fault before x) before (judge (after before x) rest)
+unfoldable pub checkRecords : Items → Records → Verdict
+checkRecords before done = ended before
+checkRecords before (broken n) = refused n before
+checkRecords before (next x rest) = decide (fault before x) before (checkRecords (after before x) rest)
 
 -- "Order: 10; then record by record"
 unfoldable pub check : List ℕ → Verdict
-check trace = choose (ltb 65536 (length trace)) (refused 10 none) (judge none (records trace))
+check trace = choose (ltb 65536 (length trace)) (refused 10 none) (checkRecords none (records trace))
 
 -- no item is refused
 pub data Valid : Items → Type 0 where

@@ -1,8 +1,8 @@
--- What items say together: the shape, the words, the requests and the acts, and the memory and the table that follow from them.
-use Prim.Native.Nat.{ℕ, _*_, _-_, _+_}
+-- What items say together: the shape, the words, the requests and the acts, and the memory that follows from them.
+use Prim.Native.Nat.{ℕ, _+_}
 use mathlib.Core.Bool.{Bool, true, false}
 use mathlib.Core.List.{List, [], _∷_, _++_}
-use lib.ListN.{length, set, replicate}
+use lib.ListN.{set, replicate}
 use lib.Dec.{eqb, ltb}
 use Rattle.lists.specs.Choice.{choose}
 use Rattle.event.specs.Event.{Act}
@@ -32,8 +32,8 @@ contents (after before x) = add (contents before) x
 abbrev pub shapeOf : Items → Shape
 shapeOf xs = contents xs .shape
 
-abbrev pub wordsOf : Items → List Word
-wordsOf xs = contents xs .words
+abbrev pub wordsGiven : Items → List Word
+wordsGiven xs = contents xs .words
 
 abbrev pub requestsOf : Items → List Request
 requestsOf xs = contents xs .requests
@@ -55,19 +55,6 @@ putWords memory (w ∷ ws) = putWords (set memory (w .address) (w .value)) ws
 unfoldable pub startWords : List Word → List ℕ
 startWords ws = putWords (replicate 256 0) ws
 
--- "engine, operation, address, first operand, second operand"
-unfoldable pub row : Request → List ℕ
-row r = r .engine ∷ r .operation ∷ r .address ∷ r .first ∷ r .second ∷ []
-
--- row after row
-unfoldable pub rows : List Request → List ℕ
-rows [] = []
-rows (r ∷ rs) = row r ++ rows rs
-
--- the requests as a table of 256 rows of 5 numbers, zeros behind the last: "The tag of a request is its place in the trace, from 0"
-unfoldable pub requestTable : List Request → List ℕ
-requestTable rs = rows rs ++ replicate (1280 - 5 * length rs) 0
-
 -- "one shape; words; requests; events and drains mixed": the section of a kind
 unfoldable pub sectionOf : ℕ → ℕ
 sectionOf kind = choose (eqb kind 1) 1 (choose (eqb kind 2) 2 (choose (eqb kind 3) 3 4))
@@ -77,11 +64,11 @@ abbrev pub section : Item → ℕ
 section x = sectionOf (kindOf x)
 
 -- the section of the last item, 0 before the first
-unfoldable pub reached : Items → ℕ
-reached none = 0
-reached (after before x) = section x
+unfoldable pub lastSection : Items → ℕ
+lastSection none = 0
+lastSection (after before x) = section x
 
 -- the offset of the first act: how many bytes the items of the other sections have
-unfoldable pub stepsAt : Items → ℕ
-stepsAt none = 0
-stepsAt (after before x) = choose (ltb (section x) 4) (stepsAt before + recordSize x) (stepsAt before)
+unfoldable pub actsAt : Items → ℕ
+actsAt none = 0
+actsAt (after before x) = choose (ltb (section x) 4) (actsAt before + recordSize x) (actsAt before)

@@ -6,7 +6,7 @@ use lib.ListN.{length}
 use Rattle.lists.specs.Search.{All}
 use Rattle.event.specs.Event.{Event, Act, namesStep}
 use Rattle.trace.specs.Item.{Shape, Request, Items}
-use Rattle.trace.specs.Contents.{shapeOf, wordsOf, requestsOf, actsOf}
+use Rattle.trace.specs.Contents.{shapeOf, wordsGiven, requestsOf, actsOf}
 use Rattle.operation.specs.Operation.{operandsFit}
 use Rattle.trace.specs.Write.{WordBytes, RequestBytes, EventBytes}
 
@@ -35,9 +35,9 @@ ActIn k (Act.event e) = EventIn k e
 ActIn k (Act.drain rounds) = rounds < 65536
 
 -- all of it; "Requests R 0 to 256"
-pub record Sound (xs : Items) : Type 0 where
+pub record InRange (xs : Items) : Type 0 where
   pub shape-in : ShapeIn (shapeOf xs)
-  pub words-in : All WordBytes (wordsOf xs)
+  pub words-in : All WordBytes (wordsGiven xs)
   pub requests-few : length (requestsOf xs) ≤ 256
   pub requests-in : All (RequestIn (shapeOf xs .k)) (requestsOf xs)
   pub acts-in : All (ActIn (shapeOf xs .k)) (actsOf xs)

@@ -6,7 +6,7 @@ use lib.Dec.{ltb, leb, eqb}
 use Rattle.lists.specs.Choice.{choose, both, within}
 use Rattle.event.specs.Event.{namesStep}
 use Rattle.trace.specs.Item.{Shape, Request, Item, shape, word, request, event, drain, Items}
-use Rattle.trace.specs.Contents.{Contents, contents, given, section, reached}
+use Rattle.trace.specs.Contents.{Contents, contents, given, section, lastSection}
 use Rattle.operation.specs.Operation.{operandsFit}
 
 -- the number n where the test fails, 0 where it holds
@@ -40,4 +40,4 @@ ownFault c (drain rounds) = 0
 
 -- "4, then 5, 6, 9, 7, 8": the number that an item is refused with, 0 where it is not
 unfoldable pub fault : Items → Item → ℕ
-fault before x = orElse (unless (mayFollow (reached before) (section x)) 4) (ownFault (contents before) x)
+fault before x = orElse (unless (mayFollow (lastSection before) (section x)) 4) (ownFault (contents before) x)

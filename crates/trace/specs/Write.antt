@@ -49,14 +49,14 @@ pub record EventBytes (e : Event) : Type 0 where
   pub level-low : e .level < 256
   pub position-low : e .position < 256
 
-abbrev pub Fits : Item → Type 0
-Fits (shape s) = ShapeBytes s
-Fits (word w) = WordBytes w
-Fits (request r) = RequestBytes r
-Fits (event e) = EventBytes e
-Fits (drain rounds) = rounds < 65536
+abbrev pub FitsBytes : Item → Type 0
+FitsBytes (shape s) = ShapeBytes s
+FitsBytes (word w) = WordBytes w
+FitsBytes (request r) = RequestBytes r
+FitsBytes (event e) = EventBytes e
+FitsBytes (drain rounds) = rounds < 65536
 
 -- and so of all items
-pub data AllFit : Items → Type 0 where
-  none-fit : AllFit none
-  after-fit : {before : Items} {x : Item} → AllFit before → Fits x → AllFit (after before x)
+pub data AllFitBytes : Items → Type 0 where
+  none-fit : AllFitBytes none
+  after-fit : {before : Items} {x : Item} → AllFitBytes before → FitsBytes x → AllFitBytes (after before x)

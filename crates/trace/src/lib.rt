@@ -2,13 +2,15 @@
 ghost use mathlib.Core.Path.{_≡_};
 ghost use lib.ListN.{replicate};
 ghost use Rattle.trace.specs.Check.{check as verdict};
-ghost use Rattle.trace.specs.Answers.{numberOf, told, says, Loaded};
+ghost use Rattle.trace.specs.Answers.{numberOf, answered, tells, Loaded};
 ghost use Rattle.trace.specs.Loop.{reading};
 use progress::Progress;
+use store::Machine;
 use turn::Turn;
 
 pub mod acts;
 mod bytes;
+mod masked;
 mod progress;
 pub mod reader;
 pub mod record;
@@ -35,7 +37,7 @@ pub struct Facts {
     pub q: u8,
     pub w: u8,
     pub requests: usize,
-    pub steps: usize,
+    pub acts_at: usize,
 }
 
 pub enum Answer {
@@ -63,31 +65,26 @@ pub fn number_of(f: Fault) -> u8
 
 // What a trace is told, and nothing else.
 pub fn check(s: &[u8]) -> Answer
-    ensures { λ r. ⌜ says r ≡ told (verdict (now (s .entry))) ⌝ }
+    ensures { λ r. ⌜ tells r ≡ answered (verdict (now (s .entry))) ⌝ }
 {
     let mut given = [0u8; 256];
     let mut words = [0u64; 256];
-    let mut table = [0u64; 1280];
-    load(s, &mut given, &mut words, &mut table)
+    let mut m = [0u64; 1152];
+    load(s, &mut given, &mut words, &mut m)
 }
 
 // What a trace is told; which addresses its words have, its starting words and its requests go into the marks, the memory and
-// the table, which are zeros before.
-pub fn load(
-    s: &[u8],
-    given: &mut [u8; 256],
-    words: &mut [u64; 256],
-    table: &mut [u64; 1280],
-) -> Answer
-    requires { ⌜ (now given ≡ replicate 256 0) × (now words ≡ replicate 256 0) × (now table ≡ replicate 1280 0) ⌝ }
-    ensures { λ r. ⌜ Loaded (now (s .entry)) r (now (given .exit)) (now (words .exit)) (now (table .exit)) ⌝ }
+// the machine, which are zeros before.
+pub fn load(s: &[u8], given: &mut [u8; 256], words: &mut [u64; 256], m: &mut Machine) -> Answer
+    requires { ⌜ (now given ≡ replicate 256 0) × (now words ≡ replicate 256 0) × (now m ≡ replicate 1152 0) ⌝ }
+    ensures { λ r. ⌜ Loaded (now (s .entry)) r (now (given .exit)) (now (words .exit)) (now (m .exit)) ⌝ }
 {
     if s.len() > 65536 {
         return Answer::Refused(Fault::Long, 0);
     }
     let mut p = Progress::start();
     loop {
-        let t = turn::one_turn(s, p, given, words, table);
+        let t = turn::one_turn(s, p, given, words, m);
         match t {
             Turn::Stop => {
                 return ended(p);
@@ -114,6 +111,6 @@ fn ended(p: Progress) -> Answer
         q: p.q,
         w: p.w,
         requests: p.requests,
-        steps: p.steps,
+        acts_at: p.acts_at,
     })
 }

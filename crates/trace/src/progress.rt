@@ -1,13 +1,14 @@
 // What is known after the records before an offset, and how a record that is not refused adds to it.
 ghost use mathlib.Core.Path.{_≡_};
-ghost use Prim.Native.Nat.{_*_, _≤_, _<_};
+ghost use Prim.Native.Nat.{_≤_, _<_, _^_};
 ghost use lib.ListN.{length, getD, set};
-ghost use lib.Seq.{sets};
 ghost use Rattle.trace.specs.Bytes.{number};
 ghost use Rattle.trace.specs.Item.{item, shapeIn, requestIn};
-ghost use Rattle.trace.specs.Contents.{row};
-ghost use Rattle.trace.specs.Loop.{begun, moved, shaped, Ready, Keeps};
+ghost use Rattle.store.specs.Layout.{size as machineSize};
+ghost use Rattle.trace.specs.Loop.{begun, moved, shaped, MayNote, Keeps, RequestPut};
 use crate::bytes::number8;
+use operation::Words;
+use store::Machine;
 
 pub struct Progress {
     pub at: usize,
@@ -16,7 +17,7 @@ pub struct Progress {
     pub q: u8,
     pub w: u8,
     pub requests: usize,
-    pub steps: usize,
+    pub acts_at: usize,
 }
 
 impl Progress {
@@ -31,24 +32,24 @@ impl Progress {
             q: 0,
             w: 0,
             requests: 0,
-            steps: 0,
+            acts_at: 0,
         }
     }
 
     // Past a record of a section, with its size, and what it adds to the requests and to the bytes before the first act.
-    fn past(mut self, section: u8, size: usize, requests: usize, steps: usize) -> Progress
-        requires { ⌜ (self .at ≤ 65536) × (self .steps ≤ 65536) × (self .requests ≤ 256) × (size ≤ 23) × (requests ≤ 1) × (steps ≤ 23) ⌝ }
-        ensures { λ r. ⌜ r ≡ moved self section size requests steps ⌝ }
+    fn past(mut self, section: u8, size: usize, requests: usize, front: usize) -> Progress
+        requires { ⌜ (self .at ≤ 65536) × (self .«acts_at» ≤ 65536) × (self .requests ≤ 256) × (size ≤ 23) × (requests ≤ 1) × (front ≤ 23) ⌝ }
+        ensures { λ r. ⌜ r ≡ moved self section size requests front ⌝ }
     {
         self.at = self.at + size;
         self.section = section;
         self.requests = self.requests + requests;
-        self.steps = self.steps + steps;
+        self.acts_at = self.acts_at + front;
         self
     }
 
     fn past_shape(mut self, b: &[u8]) -> Progress
-        requires { ⌜ (length (now b) ≡ 3) × (self .at ≤ 65536) × (self .steps ≤ 65536) ⌝ }
+        requires { ⌜ (length (now b) ≡ 3) × (self .at ≤ 65536) × (self .«acts_at» ≤ 65536) ⌝ }
         ensures { λ r. ⌜ r ≡ shaped self (shapeIn (now (b .entry))) ⌝ }
     {
         self.at = self.at + 7;
@@ -56,7 +57,7 @@ impl Progress {
         self.k = b[0];
         self.q = b[1];
         self.w = b[2];
-        self.steps = self.steps + 7;
+        self.acts_at = self.acts_at + 7;
         self
     }
 }
@@ -72,18 +73,18 @@ fn put_word(b: &[u8], marks: &mut [u8; 256], words: &mut [u64; 256])
     words[a] = v;
 }
 
-fn put_request(b: &[u8], t: usize, table: &mut [u64; 1280])
-    requires { ⌜ (length (now b) ≡ 19) × (t < 256) × (length (now table) ≡ 1280) ⌝ }
-    ensures { λ _. ⌜ now (table .exit) ≡ sets (now (table .entry)) (5 * t) (row (requestIn (now (b .entry)))) ⌝ }
+fn put_request(b: &[u8], k: u8, t: usize, m: &mut Machine)
+    requires { ⌜ (length (now b) ≡ 19) × (k ≤ 4) × (getD (now b) 0 0 < 2 ^ k) × (t < 256) × (length (now m) ≡ machineSize) ⌝ }
+    ensures { λ _. ⌜ RequestPut k (requestIn (now (b .entry))) t (now (m .entry)) (now (m .exit)) ⌝ }
 {
-    let x = number8(b, 3);
-    let y = number8(b, 11);
-    let i = 5 * t;
-    table[i] = b[0] as u64;
-    table[i + 1] = b[1] as u64;
-    table[i + 2] = b[2] as u64;
-    table[i + 3] = x;
-    table[i + 4] = y;
+    let address = b[2];
+    let path = wiring::path_of(k as usize, b[0] as u64, address as u64);
+    let asked = Words {
+        code: b[1] as u64,
+        first: number8(b, 3),
+        second: number8(b, 11),
+    };
+    store::tags::put_request(m, t, address, path, asked);
 }
 
 // Past a record that is not refused.
@@ -93,10 +94,10 @@ pub fn noted(
     p: Progress,
     marks: &mut [u8; 256],
     words: &mut [u64; 256],
-    table: &mut [u64; 1280],
+    m: &mut Machine,
 ) -> Progress
-    requires { ⌜ Ready kind (now b) p (now marks) (now words) (now table) ⌝ }
-    ensures { λ r. ⌜ Keeps (item kind (now (b .entry))) p (now (marks .entry)) (now (words .entry)) (now (table .entry)) r (now (marks .exit)) (now (words .exit)) (now (table .exit)) ⌝ }
+    requires { ⌜ MayNote kind (now b) p (now marks) (now words) (now m) ⌝ }
+    ensures { λ r. ⌜ Keeps (item kind (now (b .entry))) p (now (marks .entry)) (now (words .entry)) (now (m .entry)) r (now (marks .exit)) (now (words .exit)) (now (m .exit)) ⌝ }
 {
     match kind {
         1 => p.past_shape(b),
@@ -105,7 +106,7 @@ pub fn noted(
             p.past(2, 13, 0, 13)
         }
         3 => {
-            put_request(b, p.requests, table);
+            put_request(b, p.k, p.requests, m);
             p.past(3, 23, 1, 23)
         }
         4 => p.past(4, 7, 0, 0),

@@ -1,6 +1,6 @@
 // What a record is refused for, given the records before it: 4, 5, 6, 9, 7, 8.
 ghost use mathlib.Core.Path.{_≡_};
-ghost use Prim.Native.Nat.{_≤_, _^_};
+ghost use Prim.Native.Nat.{_≤_};
 ghost use lib.ListN.{length, getD};
 ghost use lib.Dec.{ltb, eqb};
 ghost use Rattle.event.specs.Event.{namesStep, levelFits};
@@ -14,7 +14,7 @@ use crate::bytes::number8;
 use crate::progress::Progress;
 
 pub enum Finding {
-    Sound,
+    Clean,
     Faulty(Fault),
 }
 
@@ -59,20 +59,6 @@ fn shape_fits(k: u8, q: u8, w: u8) -> bool
     w <= 8
 }
 
-// N = 2^k.
-fn engines(k: u8) -> u8
-    requires { ⌜ k ≤ 4 ⌝ }
-    ensures { λ r. ⌜ r ≡ 2 ^ k ⌝ }
-{
-    match k {
-        0 => 1,
-        1 => 2,
-        2 => 4,
-        3 => 8,
-        _ => 16,
-    }
-}
-
 // What an event is picks its step, and the range of the step's levels decides: issue, forward, module, return, collect.
 fn level_fits(k: u8, what: u8, level: u8) -> bool
     requires { ⌜ k ≤ 4 ⌝ }
@@ -94,7 +80,7 @@ pub fn names_step(k: u8, what: u8, level: u8, position: u8) -> bool
     requires { ⌜ k ≤ 4 ⌝ }
     ensures { λ r. ⌜ r ≡ namesStep k (record { what = what; level = level; position = position }) ⌝ }
 {
-    if position >= engines(k) {
+    if position as usize >= wiring::width(k as usize) {
         return false;
     }
     level_fits(k, what, level)
@@ -105,7 +91,7 @@ fn shape_fault(b: &[u8]) -> Finding
     ensures { λ r. ⌜ findingNumber r ≡ unless (shapeFits (shapeIn (now (b .entry)))) 5 ⌝ }
 {
     if shape_fits(b[0], b[1], b[2]) {
-        return Finding::Sound;
+        return Finding::Clean;
     }
     Finding::Faulty(Fault::Range)
 }
@@ -117,7 +103,7 @@ fn word_fault(b: &[u8], marks: &[u8; 256]) -> Finding
 {
     let a = b[0] as usize;
     if marks[a] == 0 {
-        return Finding::Sound;
+        return Finding::Clean;
     }
     Finding::Faulty(Fault::Twice)
 }
@@ -129,11 +115,11 @@ fn request_fault(b: &[u8], k: u8, requests: usize) -> Finding
     if requests >= 256 {
         return Finding::Faulty(Fault::Many);
     }
-    if b[0] >= engines(k) {
+    if b[0] as usize >= wiring::width(k as usize) {
         return Finding::Faulty(Fault::Operand);
     }
     if operation::operands_fit(b[1], number8(b, 3), number8(b, 11)) {
-        return Finding::Sound;
+        return Finding::Clean;
     }
     Finding::Faulty(Fault::Operand)
 }
@@ -143,7 +129,7 @@ fn event_fault(b: &[u8], k: u8) -> Finding
     ensures { λ r. ⌜ findingNumber r ≡ unless (namesStep k (eventIn (now (b .entry)))) 8 ⌝ }
 {
     if names_step(k, b[0], b[1], b[2]) {
-        return Finding::Sound;
+        return Finding::Clean;
     }
     Finding::Faulty(Fault::Step)
 }
@@ -158,7 +144,7 @@ fn own_fault(b: &[u8], kind: u64, p: Progress, marks: &[u8; 256]) -> Finding
         2 => word_fault(b, marks),
         3 => request_fault(b, p.k, p.requests),
         4 => event_fault(b, p.k),
-        _ => Finding::Sound,
+        _ => Finding::Clean,
     }
 }
 

@@ -6,14 +6,18 @@ use crate::Fault;
 use crate::acts::DRAIN_SIZE;
 use crate::acts::EVENT_SIZE;
 use crate::bytes::number4;
+use crate::bytes::number8;
+use crate::masked::fixed_bits;
+use crate::masked::is_event;
+use crate::masked::steps_of;
 use crate::progress::Progress;
 use crate::progress::noted;
 use crate::reader::head_due;
 use crate::record::Head;
 use crate::record::body;
 use crate::rules::Finding;
-use crate::rules::names_step;
 use crate::rules::record_fault;
+use store::Machine;
 
 pub enum Turn {
     Stop,
@@ -27,10 +31,10 @@ pub fn one_turn(
     p: Progress,
     marks: &mut [u8; 256],
     words: &mut [u64; 256],
-    table: &mut [u64; 1280],
+    m: &mut Machine,
 ) -> Turn
-    requires { ⌜ Inside (now s) p (now marks) (now words) (now table) ⌝ }
-    ensures { λ r. ⌜ TurnRight (now (s .entry)) p (now (marks .exit)) (now (words .exit)) (now (table .exit)) r ⌝ }
+    requires { ⌜ Inside (now s) p (now marks) (now words) (now m) ⌝ }
+    ensures { λ r. ⌜ TurnRight (now (s .entry)) p (now (marks .exit)) (now (words .exit)) (now (m .exit)) r ⌝ }
 {
     let at = p.at;
     let found = head_due(s, at);
@@ -41,62 +45,59 @@ pub fn one_turn(
             let b = body(s, at, size);
             let finding = record_fault(b, kind, p, marks);
             match finding {
-                Finding::Sound => Turn::Go(noted(b, kind, p, marks, words, table)),
+                Finding::Clean => Turn::Go(noted(b, kind, p, marks, words, m)),
                 Finding::Faulty(f) => Turn::Fail(f),
             }
         }
     }
 }
 
-// An event's header and a drain's, length and kind, each as the one number that its four bytes spell.
-const EVENT_HEADER: u64 = 3 + 65536 * 4;
-
+// A drain's header, length and kind, as the one number that its four bytes spell.
 const DRAIN_HEADER: u64 = 2 + 65536 * 5;
 
 const FOUR_DRAINS: usize = 4 * DRAIN_SIZE;
 
-// The end of the events and drains that are not refused, from an offset on.
+const EIGHT_DRAINS: usize = 8 * DRAIN_SIZE;
+
+// The end of the events and drains that are not refused, from an offset on, as far as eight bytes can be read at once: the last record
+// of a trace is left.
 fn acts_end(s: &[u8], at: usize, k: u8) -> usize
     requires { ⌜ (at ≤ length (now s)) × (length (now s) ≤ 65536) × (k ≤ 4) ⌝ }
     ensures { λ r. ⌜ Passed (now (s .entry)) k at r ⌝ }
 {
+    let fixed = fixed_bits(k);
+    let named = steps_of(k);
     let mut i = at;
     loop {
-        let left = s.len() - i;
-        if left < DRAIN_SIZE {
+        if s.len() - i < 8 {
             return i;
         }
-        let head = number4(s, i);
-        if head == DRAIN_HEADER {
-            i = past_drains(s, i + DRAIN_SIZE);
+        let w = number8(s, i);
+        if is_event(w, fixed, named) {
+            i += EVENT_SIZE;
         } else {
-            if head != EVENT_HEADER {
+            if w % 4294967296 != DRAIN_HEADER {
                 return i;
             }
-            if left < EVENT_SIZE {
-                return i;
-            }
-            if names_step(k, s[i + 4], s[i + 5], s[i + 6]) {
-                i += EVENT_SIZE;
-            } else {
-                return i;
-            }
+            i = past_drains(s, i + DRAIN_SIZE);
         }
     }
 }
 
-// Past drains, four at a stride: a trace may end in thousands of them. Those that are left are passed one by one.
+// Past drains, eight at a stride: a trace may end in thousands of them. Those that are left are passed one by one.
 fn past_drains(s: &[u8], at: usize) -> usize
     requires { ⌜ (at ≤ length (now s)) × (length (now s) ≤ 65536) ⌝ }
     ensures { λ r. ⌜ DrainsPassed (now (s .entry)) at r ⌝ }
 {
     let mut i = at;
-    while s.len() - i >= FOUR_DRAINS {
-        if four_drains(s, i) {
-            i += FOUR_DRAINS;
-        } else {
+    while s.len() - i >= EIGHT_DRAINS {
+        if !four_drains(s, i) {
             return i;
         }
+        if !four_drains(s, i + FOUR_DRAINS) {
+            return i;
+        }
+        i += EIGHT_DRAINS;
     }
     i
 }

@@ -1,40 +1,30 @@
+-- `start::first_of` meets its contract: an empty queue has no first request.
 use mathlib.Core.Path.{_∙_}
-use Rattle.start.proofs.Linking.{first-none, first-some}
-use Rattle.store.specs.Memory.{view}
 use native.Mathlib.Omega.{arith}
 use borrow.Author.Needs.{needs}
+use Rattle.store.specs.Memory.{view}
+use Rattle.start.proofs.Linking.{first-none, first-some}
 use Rattle.start.proofs.first_of.Statement.{statement}
 use Rattle.start.proofs.first_of.Tie as tie
-use Rattle.start.proofs.first_of.Reads as reads
-use Rattle.start.proofs.first_of.Lts as lts
-use Rattle.store.proofs.queues.oldest_request.Reads as oldest-request-reads
-use Rattle.store.proofs.queues.request_count.Reads as request-count-reads
-use Rattle.store.proofs.shape.requests_in.Reads as requests-in-reads
 
--- src/lib.rt:43:8
 request-count-requires : tie.Need-request-count-requires
 request-count-requires c κs = search needs
 
--- src/lib.rt:44:9
 requests-in-requires : tie.Need-requests-in-requires
 requests-in-requires c κs = search needs
 
--- src/lib.rt:44:9
 returns : tie.Need-returns
 returns c =
     let start = c .before .before .before in
     let count = c .before .before .request-count in
     (c .requests-in .ensures ∙ first-none (view (start .args .m .now)) (start .args .e) (count .result) (count .ensures .0) (c .before .if1 .taken), omega arith)
 
--- src/lib.rt:46:5
 oldest-request-requires : tie.Need-oldest-request-requires
 oldest-request-requires c κs = search needs
 
--- src/lib.rt:46:5
 cast-result : tie.Need-cast-result
 cast-result c = search needs
 
--- src/lib.rt:39:1
 returns-2 : tie.Need-returns-2
 returns-2 c =
     let start = c .before .before .before in

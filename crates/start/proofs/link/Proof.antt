@@ -1,42 +1,31 @@
-use mathlib.Core.Path.{_∙_, ap}
-use Rattle.view.specs.View.{View}
-use Rattle.start.proofs.Linking.{link-stored}
-use Rattle.store.specs.Memory.{view}
+-- `start::link` meets its contract, by `link-stored`.
+use mathlib.Core.Path.{ap}
 use native.Mathlib.Omega.{arith}
 use borrow.Author.Needs.{needs}
+use Rattle.view.specs.View.{View}
+use Rattle.store.specs.Memory.{view}
+use Rattle.start.proofs.Linking.{link-stored}
 use Rattle.start.proofs.link.Statement.{statement}
 use Rattle.start.proofs.link.Tie as tie
-use Rattle.start.proofs.link.Reads as reads
-use Rattle.start.proofs.link.Lts as lts
-use Rattle.start.proofs.first_of.Reads as first-of-reads
-use Rattle.store.proofs.queues.set_next.Reads as set-next-reads
-use Rattle.store.proofs.tags.position_of.Reads as position-of-reads
-use Rattle.store.proofs.tags.set_after.Reads as set-after-reads
 
--- src/lib.rt:32:34
 cast-position-of : tie.Need-cast-position-of
 cast-position-of c = search needs
 
--- src/lib.rt:32:9
 position-of-requires : tie.Need-position-of-requires
 position-of-requires c κs = search needs
 
--- src/lib.rt:33:9
 first-of-requires : tie.Need-first-of-requires
 first-of-requires c κs = search needs
 
--- src/lib.rt:34:5
 set-after-requires : tie.Need-set-after-requires
 set-after-requires c κs = search needs
 
--- src/lib.rt:35:5
 set-next-requires : tie.Need-set-next-requires
 set-next-requires c κs =
     let after = c .before .set-after .ensures in
     let start = c .before .before .before .before .before .before .before in
     (after .sized, (omega (arith, c .before .before .before .before .before .position-of .ensures .1), omega (arith, ap (λ (v : View). v .fixed .count) (after .holds), start .pre .1 .1)))
 
--- src/lib.rt:27:1
 returns : tie.Need-returns
 returns c =
     let start = c .before .before .before .before .before .before .before .before in

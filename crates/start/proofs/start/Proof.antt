@@ -1,13 +1,9 @@
+-- `start::start` meets its contract. The loop's invariant: the requests from t on are linked, in every network that was loaded.
 use mathlib.Core.Path.{_≡_}
-use Rattle.start.proofs.Linking.{Linking, linking-none, linking-more, linking-all, loaded-within}
 use native.Mathlib.Omega.{arith}
-use borrow.Author.Needs.{needs}
+use Rattle.start.proofs.Linking.{Linking, linking-none, linking-more, linking-all, loaded-within}
 use Rattle.start.proofs.start.Statement.{statement}
 use Rattle.start.proofs.start.Tie as tie
-use Rattle.start.proofs.start.Reads as reads
-use Rattle.start.proofs.start.Lts as lts
-use Rattle.start.proofs.link.Reads as link-reads
-use Rattle.store.proofs.shape.set_shape.Reads as set-shape-reads
 
 abbrev Inv-loop : tie.InvT-loop
 Inv-loop m₀ k q w count t₀ m t = Linking m₀ m count t
@@ -15,38 +11,31 @@ Inv-loop m₀ k q w count t₀ m t = Linking m₀ m count t
 abbrev μ-loop : tie.MeasureT-loop
 μ-loop m₀ k q w count t₀ m t = t
 
--- src/lib.rt:18:5
 set-shape-requires : tie.Need-set-shape-requires Inv-loop μ-loop
 set-shape-requires c κs = (c .before .pre .sized, omega (arith, loaded-within (c .before .pre)))
 
--- src/lib.rt:20:5
 loop-holds : tie.Need-loop-holds Inv-loop μ-loop
-loop-holds c = 
+loop-holds c =
     let start = c .before .before in
     linking-none (start .args .m .now) (start .args .k) (start .args .q) (start .args .w) (start .args .count) (start .pre) (c .set-shape .last .0) (c .set-shape .ensures)
 
--- src/lib.rt:21:9
 sub-t : tie.Need-sub-t Inv-loop μ-loop
 sub-t c = omega arith
 
--- src/lib.rt:22:9
 link-requires : tie.Need-link-requires Inv-loop μ-loop
 link-requires c κs =
     let l = c .before .before .loop in
     let most = loaded-within (c .before .before .before .before .before .pre) in
     (l .inv .sized, (omega (arith, most), omega (arith, most, l .inv .counted)))
 
--- src/lib.rt:20:5
 loop-less : tie.Need-loop-less Inv-loop μ-loop
 loop-less c = omega arith
 
--- src/lib.rt:20:5
 loop-again : tie.Need-loop-again Inv-loop μ-loop
-loop-again c = 
+loop-again c =
     let l = c .before .before .before in
     linking-more (l .before .set-shape .last .0) (l .loop .m) (l .before .before .before .args .count) (l .loop .t) (l .loop .inv) (omega arith) (c .link .last .0) (c .link .ensures)
 
--- src/lib.rt:14:1
 returns : tie.Need-returns Inv-loop μ-loop
 returns c =
     let start = c .before .before .before .before in

@@ -8,10 +8,10 @@ use Rattle.trace.proofs.load.Statement.{statement}
 use Rattle.trace.proofs.load.Tie as tie
 
 abbrev Inv-loop : tie.InvT-loop
-Inv-loop s given₀ words₀ table₀ p₀ given words table p = Inside s p given words table
+Inv-loop s given₀ words₀ m₀ p₀ given words m p = Inside s p given words m
 
 abbrev μ-loop : tie.MeasureT-loop
-μ-loop s given₀ words₀ table₀ p₀ given words table p = length s - p .at
+μ-loop s given₀ words₀ m₀ p₀ given words m p = length s - p .at
 
 returns : tie.Need-returns Inv-loop μ-loop
 returns c = let d = c .before .before in rw (d .pre .0, d .pre .1, d .pre .2) (loaded-long _ (c .if1 .taken))

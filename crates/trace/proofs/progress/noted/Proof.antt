@@ -12,7 +12,7 @@ use Rattle.trace.proofs.progress.noted.Tie as tie
 
 past-shape-requires : tie.Need-past-shape-requires
 unfolding bodySize
-past-shape-requires c κs = let k = c .before .before .pre in (k .body-size ∙ ap bodySize (c .match .keys1), k .at-low, omega (arith, k .room .steps-low, k .at-low))
+past-shape-requires c κs = let k = c .before .before .pre in (k .body-size ∙ ap bodySize (c .match .keys1), k .at-low, omega (arith, k .room .acts-at-low, k .at-low))
 
 put-word-requires : tie.Need-put-word-requires
 unfolding bodySize
@@ -23,7 +23,8 @@ past-requires c κs = search needs
 
 put-request-requires : tie.Need-put-request-requires
 unfolding bodySize
-put-request-requires c κs = let k = c .before .before .before .pre in (k .body-size ∙ ap bodySize (c .before .match .keys3), k .few (c .before .match .keys3), k .room .table-size)
+put-request-requires c κs = let k = c .before .before .before .pre in let three = c .before .match .keys3 in
+    (k .body-size ∙ ap bodySize three, k .k-low, k .engine-below three, k .few three, k .sized)
 
 past-requires-2 : tie.Need-past-requires-2
 past-requires-2 c κs = search needs
@@ -47,7 +48,7 @@ returns-2 c = let d = c .before .before .before .before .before .before in
 returns-3 : tie.Need-returns-3
 unfolding item
 returns-3 c = let d = c .before .before .before .before .before in let three = c .before .before .before .match .keys3 in
-    rw (three, c .past2 .ensures, c .before .put-request .ensures) (keeps-request (d .pre .room) (requestIn (now (d .args .b))) (d .pre .few three))
+    rw (three, c .past2 .ensures) (keeps-request (d .pre .room) (requestIn (now (d .args .b))) (d .pre .few three) _ (c .before .put-request .ensures))
 
 returns-4 : tie.Need-returns-4
 unfolding item kindOf recordSize bodySize

@@ -4,7 +4,7 @@ use lib.ListN.{getD}
 use denote.Ref.{now}
 use borrow.Author.Tests.{ne-eqb}
 use Rattle.trace.specs.Refusals.{ownFault}
-use Rattle.trace.specs.Contents.{given, wordsOf}
+use Rattle.trace.specs.Contents.{given, wordsGiven}
 use Rattle.trace.specs.Item.{item}
 use Rattle.trace.specs.Bytes.{bodySize}
 use Rattle.trace.proofs.Tests.{mark-test}
@@ -36,7 +36,7 @@ unfolding item ownFault
 returns-2 c = record {
   is = λ before known.
       let a = getD (now (c .before .before .before .args .b)) 0 0 in
-      rw (c .before .match .keys2) (c .word-fault .ensures ∙ rw (known .marks-are a (omega (arith, c .before .before .shared-slice-known .given 0))) (mark-test (given (wordsOf before) a)));
+      rw (c .before .match .keys2) (c .word-fault .ensures ∙ rw (known .marks-are a (omega (arith, c .before .before .shared-slice-known .given 0))) (mark-test (given (wordsGiven before) a)));
 }
 
 returns-3 : tie.Need-returns-3

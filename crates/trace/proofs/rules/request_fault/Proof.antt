@@ -1,3 +1,4 @@
+use native.Mathlib.Omega.{arith}
 use borrow.Author.Tests.{lt-ltb, le-ltb}
 use borrow.Author.Needs.{needs}
 use Rattle.trace.specs.Refusals.{requestFits, orElse}
@@ -11,12 +12,15 @@ returns c = simp (le-ltb _ _ (c .if1 .taken))
 shared-slice-read-if2 : tie.Need-shared-slice-read-if2
 shared-slice-read-if2 c = search needs
 
-engines-requires : tie.Need-engines-requires
-engines-requires c κs = search needs
+cast-if2 : tie.Need-cast-if2
+cast-if2 c = omega (arith, c .shared-slice-known2 .given 0)
+
+width-requires : tie.Need-width-requires
+width-requires c κs = search needs
 
 returns-2 : tie.Need-returns-2
 unfolding requestFits orElse
-returns-2 c = simp (lt-ltb _ _ (c .before .before .before .if1 .left), ← (c .before .engines .ensures), le-ltb _ _ (c .if2 .taken))
+returns-2 c = simp (lt-ltb _ _ (c .before .before .before .if1 .left), ← (c .before .width .ensures .0), le-ltb _ _ (c .if2 .taken))
 
 shared-slice-read-operands-fit : tie.Need-shared-slice-read-operands-fit
 shared-slice-read-operands-fit c = search needs
@@ -33,12 +37,12 @@ operands-fit-requires c κs = search needs
 returns-3 : tie.Need-returns-3
 unfolding requestFits orElse
 returns-3 c = let d = c .before .before .before .before .before in
-    simp (lt-ltb _ _ (d .before .before .before .if1 .left), ← (d .before .engines .ensures), lt-ltb _ _ (d .if2 .left), ← (c .before .before .before .number8 .ensures), ← (c .before .before .number82 .ensures), ← (c .before .operands-fit .ensures), c .if3 .taken)
+    simp (lt-ltb _ _ (d .before .before .before .if1 .left), ← (d .before .width .ensures .0), lt-ltb _ _ (d .if2 .left), ← (c .before .before .before .number8 .ensures), ← (c .before .before .number82 .ensures), ← (c .before .operands-fit .ensures), c .if3 .taken)
 
 returns-4 : tie.Need-returns-4
 unfolding requestFits orElse
 returns-4 c = let d = c .before .before .before .before .before in
-    simp (lt-ltb _ _ (d .before .before .before .if1 .left), ← (d .before .engines .ensures), lt-ltb _ _ (d .if2 .left), ← (c .before .before .before .number8 .ensures), ← (c .before .before .number82 .ensures), ← (c .before .operands-fit .ensures), c .if3 .left)
+    simp (lt-ltb _ _ (d .before .before .before .if1 .left), ← (d .before .width .ensures .0), lt-ltb _ _ (d .if2 .left), ← (c .before .before .before .number8 .ensures), ← (c .before .before .number82 .ensures), ← (c .before .operands-fit .ensures), c .if3 .left)
 
 pub request-fault-spec : {M : Type 1} → statement M
 request-fault-spec =
@@ -46,7 +50,8 @@ request-fault-spec =
     (tie.spec
     returns
     shared-slice-read-if2
-    engines-requires
+    cast-if2
+    width-requires
     returns-2
     shared-slice-read-operands-fit
     number8-requires

@@ -2,7 +2,7 @@ use mathlib.Core.Path.{_∙_, sym}
 use native.Mathlib.Omega.{arith}
 use denote.Ref.{now}
 use borrow.Author.Needs.{needs}
-use Rattle.trace.proofs.Verdicts.{turn-stop, turn-bad, turn-fault, turn-go, few-requests}
+use Rattle.trace.proofs.Verdicts.{turn-stop, turn-bad, turn-fault, turn-go, few-requests, low-engine}
 use Rattle.trace.proofs.Records.{Body, body-at}
 use Rattle.trace.proofs.turn.one_turn.Statement.{statement}
 use Rattle.trace.proofs.turn.one_turn.Tie as tie
@@ -37,12 +37,17 @@ enum-told-2 : tie.Need-enum-told-2
 enum-told-2 c = search needs
 
 noted-requires : tie.Need-noted-requires
-noted-requires c κs = let h = at-body (c .before .before .before .before .before .before .before) in let i = c .before .before .before .before .before .before .before .before .before .before .before .before .before .pre in
+noted-requires c κs = let h = at-body (c .before .before .before .before .before .before .before) in
+    let i = c .before .before .before .before .before .before .before .before .before .before .before .before .before .pre in
+    let found = rw (c .before .before .before .enum-told2 .given .1) at (c .before .before .before .before .before .record-fault .ensures) in
     record {
       body-size = h .long ∙ h .fits .right;
       at-low = omega (arith, i .at-inside, i .short);
-      few = few-requests i (h .stands) (rw (c .before .before .before .enum-told2 .given .1) at (c .before .before .before .before .before .record-fault .ensures));
+      k-low = i .so-far .known .k-low;
+      few = few-requests i (h .stands) found;
+      engine-below = low-engine i (h .stands) found;
       room = i .room;
+      sized = i .so-far .loaded .sized;
     }
 
 enum-known-finding : tie.Need-enum-known-finding

@@ -1,0 +1,4 @@
+use Rattle.model.proofs.give.Statement.{statement}
+
+pub give-spec : {M : Type 1} → statement M
+give-spec = ?

@@ -1,0 +1,72 @@
+-- `results::copy_order` meets its contract: the slice is filled from its front.
+use Prim.Native.Nat.{_-_, _≤_}
+use native.Mathlib.Omega.{arith}
+use lib.ListN.{getD}
+use borrow.Author.Needs.{needs}
+use Rattle.store.specs.Memory.{view}
+use Rattle.results.proofs.Filling.{Filled, filled-none, filled-more, filled-list}
+use Rattle.results.proofs.copy_order.Statement.{statement}
+use Rattle.results.proofs.copy_order.Tie as tie
+
+abbrev Inv-loop : tie.InvT-loop
+Inv-loop m order₀ n i₀ order i = (i ≤ n) × Filled (λ j. getD (view m .order) j 0) order₀ order i
+
+abbrev μ-loop : tie.MeasureT-loop
+μ-loop m order₀ n i₀ order i = n - i
+
+ordered-requires : tie.Need-ordered-requires Inv-loop μ-loop
+ordered-requires c κs = search needs
+
+loop-holds : tie.Need-loop-holds Inv-loop μ-loop
+loop-holds c = (omega arith, filled-none (λ j. getD (view (c .before .before .args .m .now) .order) j 0) (c .before .before .args .order .now))
+
+order-at-requires : tie.Need-order-at-requires Inv-loop μ-loop
+order-at-requires c κs = search needs
+
+cast-order : tie.Need-cast-order Inv-loop μ-loop
+cast-order c = search needs
+
+mul-order : tie.Need-mul-order Inv-loop μ-loop
+mul-order c = search needs
+
+slice-write-order : tie.Need-slice-write-order Inv-loop μ-loop
+slice-write-order c = search needs
+
+add-i : tie.Need-add-i Inv-loop μ-loop
+add-i c = search needs
+
+loop-less : tie.Need-loop-less Inv-loop μ-loop
+loop-less c = search needs
+
+loop-again : tie.Need-loop-again Inv-loop μ-loop
+loop-again c =
+    let start = c .before .before .before .before .before in
+    let l = c .before .before .loop in
+    (omega arith, filled-more (λ j. getD (view (start .args .m .now) .order) j 0) (start .args .order .now) (l .order) (l .i) (l .inv .1) (omega arith) (c .order-at .result) (c .order-at .ensures))
+
+same-length : tie.Need-same-length Inv-loop μ-loop
+same-length c = c .before .loop .inv .1 .sized
+
+returns : tie.Need-returns Inv-loop μ-loop
+returns c =
+    let start = c .before .before .before .before in
+    let l = c .before .loop in
+    filled-list (view (start .args .m .now) .order) (start .args .order .now) (l .order) (l .i) (l .inv .1) (omega arith)
+
+pub copy-order-spec : {M : Type 1} → statement M
+copy-order-spec =
+    tie.close
+    (tie.spec
+    Inv-loop
+    μ-loop
+    ordered-requires
+    loop-holds
+    order-at-requires
+    cast-order
+    mul-order
+    slice-write-order
+    add-i
+    loop-less
+    loop-again
+    same-length
+    returns)

@@ -1,0 +1,69 @@
+-- `results::copy_words` meets its contract: the slice is filled from its front.
+use Prim.Native.Nat.{_-_, _≤_}
+use mathlib.Core.Path.{refl}
+use native.Mathlib.Omega.{arith}
+use lib.ListN.{getD}
+use borrow.Author.Needs.{needs}
+use Rattle.results.proofs.Filling.{Filled, filled-none, filled-more, filled-list}
+use Rattle.results.proofs.copy_words.Statement.{statement}
+use Rattle.results.proofs.copy_words.Tie as tie
+
+abbrev Inv-loop : tie.InvT-loop
+Inv-loop memory words₀ i₀ words i = (i ≤ 256) × Filled (λ j. getD memory j 0) words₀ words i
+
+abbrev μ-loop : tie.MeasureT-loop
+μ-loop memory words₀ i₀ words i = 256 - i
+
+loop-holds : tie.Need-loop-holds Inv-loop μ-loop
+loop-holds c = (omega arith, filled-none (λ j. getD (c .args .memory .now) j 0) (c .args .words .now))
+
+mul-words : tie.Need-mul-words Inv-loop μ-loop
+mul-words c = search needs
+
+element-copy-out-words : tie.Need-element-copy-out-words Inv-loop μ-loop
+element-copy-out-words c = search needs
+
+mul-words-2 : tie.Need-mul-words-2 Inv-loop μ-loop
+mul-words-2 c = search needs
+
+slice-write-words : tie.Need-slice-write-words Inv-loop μ-loop
+slice-write-words c = search needs
+
+add-i : tie.Need-add-i Inv-loop μ-loop
+add-i c = search needs
+
+loop-less : tie.Need-loop-less Inv-loop μ-loop
+loop-less c = search needs
+
+loop-again : tie.Need-loop-again Inv-loop μ-loop
+loop-again c =
+    let start = c .before .before .before in
+    let l = c .before .before .loop in
+    let new = start .args .memory .now in
+    (omega arith, filled-more (λ j. getD new j 0) (start .args .words .now) (l .words) (l .i) (l .inv .1) (omega arith) (getD new (l .i) 0) refl)
+
+same-length : tie.Need-same-length Inv-loop μ-loop
+same-length c = c .before .loop .inv .1 .sized
+
+returns : tie.Need-returns Inv-loop μ-loop
+returns c =
+    let start = c .before .before in
+    let l = c .before .loop in
+    filled-list (start .args .memory .now) (start .args .words .now) (l .words) (l .i) (l .inv .1) (omega arith)
+
+pub copy-words-spec : {M : Type 1} → statement M
+copy-words-spec =
+    tie.close
+    (tie.spec
+    Inv-loop
+    μ-loop
+    loop-holds
+    mul-words
+    element-copy-out-words
+    mul-words-2
+    slice-write-words
+    add-i
+    loop-less
+    loop-again
+    same-length
+    returns)
