@@ -5,7 +5,7 @@ use mathlib.Core.Logic.{_≢_}
 use mathlib.Core.List.{List, [], _∷_, _++_, map}
 use mathlib.Core.Option.{Option, none, some}
 use native.Mathlib.Omega.{arith}
-use lib.ListN.{length, length-map}
+use lib.ListN.{length, length-append, length-map}
 use borrow.Author.Tests.{lt-ltb, le-ltb}
 use Rattle.lists.specs.Search.{Found, absent, found}
 use Rattle.lists.specs.Table.{downFrom}
@@ -46,6 +46,21 @@ refused-unmerged e = let z : _≡_ {A = ℕ} 0 1 = cc in omega arith
 appended-unrefused : Appended ≢ Refused
 appended-unrefused e = let z : _≡_ {A = ℕ} 0 1 = cc in omega arith
 
+-- ---- one more at the end
+one-more-tag : (l k : Tags) (t : ℕ) → tagsOf l ≡ tagsOf k ++ (t ∷ []) → l .len ≡ suc (k .len)
+one-more-tag l k t e =
+    omega (arith, ap (length {A = ℕ}) e, length-append (tagsOf k) (t ∷ []), length-down (l .len) (byteIn (l .items)), length-down (k .len) (byteIn (k .items)))
+
+one-more-pair : (l k : Pairs) (p : Pair) → pairsOf l ≡ pairsOf k ++ (p ∷ []) → l .len ≡ suc (k .len)
+one-more-pair l k p e =
+    omega (
+      arith,
+      ap (length {A = Pair}) e,
+      length-append (pairsOf k) (p ∷ []),
+      length-below (l .len) (pairIn (l .firsts) (l .seconds)),
+      length-below (k .len) (pairIn (k .firsts) (k .seconds)),
+    )
+
 -- ---- appending, by its cases
 module _ (x : Network) (v : View) (n : Node) where
   length-queue : length (map (messageOf x v) (tagsOf (n .queue))) ≡ n .queue .len
@@ -63,6 +78,7 @@ module _ (n : Node) (t q : ℕ) (held : HeldNode n) where
     appends = λ x v Q. rw (length-queue x v n, lt-ltb _ _ (subst (λ r. n .queue .len < r) (sym Q) room), e, map-append);
     unmerged = appended-unmerged;
     waiting-stays = refl;
+    longer = λ _. one-more-tag queue (n .queue) t e;
     refusal = λ z. absurd (appended-unrefused z);
   }
 
@@ -73,6 +89,7 @@ module _ (n : Node) (t q : ℕ) (held : HeldNode n) where
     appends = λ x v Q. rw (length-queue x v n, le-ltb _ _ (subst (λ r. r ≤ n .queue .len) (sym Q) full));
     unmerged = refused-unmerged;
     waiting-stays = refl;
+    longer = λ z. absurd (appended-unrefused (sym z));
     refusal = λ _. refl;
   }
 
@@ -125,6 +142,8 @@ module _ (n : Node) (m : List ℕ) (t q w : ℕ) (sized : length m ≡ size) (r 
     changes = refl;
     unmerged = λ _. refl;
     others = λ _ _ _. refl;
+    longer = a .longer;
+    recorded = λ e. absurd (a .unmerged e);
     queue-stays = λ e. absurd (a .unmerged e);
     waiting-stays = λ _. a .waiting-stays;
     refusal = a .refusal;
@@ -243,6 +262,8 @@ module _ (n : Node) (m : List ℕ) (t q w i u : ℕ)
       changes = rw holds;
       unmerged = λ z. absurd (z refl);
       others = λ a d z. ap (λ (v : View). v .carried a) holds ∙ other-carries n (view m) t u older younger o apart queue-is a d z;
+      longer = λ z. absurd (appended-unmerged (sym z));
+      recorded = λ _. one-more-pair waiting (n .waiting) _ longer;
       queue-stays = λ _. refl;
       waiting-stays = λ z. absurd (appended-unmerged (sym z));
       refusal = λ z. absurd (refused-unmerged (sym z));

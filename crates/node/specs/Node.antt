@@ -75,6 +75,7 @@ pub record AppendedTo (n : Node) (t q : ℕ) (r : Arrived) : Type 0 where
       machine.append (setup x) (nodeIn x v n) (messageOf x v t) ≡ arrivalOf x (cameOf (r .outcome)) (nodeIn x v (r .node))
   pub unmerged : r .outcome ≢ Merged
   pub waiting-stays : r .node .waiting ≡ n .waiting
+  pub longer : r .outcome ≡ Appended → r .node .queue .len ≡ suc (n .queue .len)
   pub refusal : r .outcome ≡ Refused → r .node ≡ n
 
 -- "A message arriving at a request queue": v is the view before it, m′ the machine after it
@@ -87,6 +88,9 @@ pub record ArrivedAt (n : Node) (v : View) (t q w : ℕ) (m′ : List ℕ) (r : 
   pub changes : view m′ ≡ carrying v (view m′ .carried)
   pub unmerged : r .outcome ≢ Merged → view m′ ≡ v
   pub others : (u : ℕ) → u ≢ t → count (λ (w : ℕ). w) u (tagsOf (n .queue)) ≡ 0 → view m′ .carried u ≡ v .carried u
+  -- an append has one message more in the queue, a merge one record more in the wait buffer
+  pub longer : r .outcome ≡ Appended → r .node .queue .len ≡ suc (n .queue .len)
+  pub recorded : r .outcome ≡ Merged → r .node .waiting .len ≡ suc (n .waiting .len)
   -- a merge leaves the queue's tags, an append the wait buffer, a refusal both
   pub queue-stays : r .outcome ≡ Merged → r .node .queue ≡ n .queue
   pub waiting-stays : r .outcome ≡ Appended → r .node .waiting ≡ n .waiting

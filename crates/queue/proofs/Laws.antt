@@ -8,11 +8,10 @@ use native.Mathlib.Omega.{arith}
 use lib.ListN.{getD, take, drop}
 use lib.Dec.{eqb}
 use borrow.Author.Tests.{eq-eqb, ne-eqb}
-use Rattle.lists.specs.Table.{update, listBelow}
+use Rattle.lists.specs.Table.{listBelow}
 use Rattle.lists.specs.Search.{firstOf, found}
-use Rattle.lists.proofs.Tables.{update-same, update-other}
 use Rattle.lists.proofs.Below.{getD-below, below-same, below-without, firstOf-below, firstOf-below-none, getD-down, down-push}
-use Rattle.words.specs.Digits.{byteIn, Pushed, Without, PlaceOf}
+use Rattle.words.specs.Digits.{byteIn, Pushed, Topped, Without, PlaceOf}
 use Rattle.view.specs.View.{Pair}
 use Rattle.queue.specs.Queue.{tagsIn, pairIn, pairsIn, noPair, foundAt}
 use Rattle.queue.specs.declared.Place.the-variants.{At, Nowhere}
@@ -38,19 +37,13 @@ module _ (firsts seconds n : ℕ) where
   pub pairs-at : (i : ℕ) → i < n → getD (pairsIn firsts seconds n) i noPair ≡ pairIn firsts seconds i
   pairs-at i l = getD-below noPair n (pairIn firsts seconds) i l
 
-  pub pairs-push : (a b firsts′ seconds′ : ℕ) → byteIn firsts′ ≡ update (byteIn firsts) n a → byteIn seconds′ ≡ update (byteIn seconds) n b →
+  pub pairs-push : (a b firsts′ seconds′ : ℕ) → Topped firsts n a firsts′ → Topped seconds n b seconds′ →
       pairsIn firsts′ seconds′ (n + 1) ≡ pairsIn firsts seconds n ++ (record { first = a; second = b } ∷ [])
   unfolding listBelow
-  pairs-push a b firsts′ seconds′ e e′ =
+  pairs-push a b firsts′ seconds′ h h′ =
       rw add-one (ap₂ (λ (l : List Pair) (p : Pair). l ++ (p ∷ []))
-      (below-same n (pairIn firsts′ seconds′) (pairIn firsts seconds) (λ i l. pair-is (same firsts firsts′ a e i l) (same seconds seconds′ b e′ i l)))
-      (pair-is (new firsts firsts′ a e) (new seconds seconds′ b e′)))
-    where
-      same : (w w′ x : ℕ) → byteIn w′ ≡ update (byteIn w) n x → (i : ℕ) → i < n → byteIn w′ i ≡ byteIn w i
-      same w w′ x e i l = ap (λ (g : ℕ → ℕ). g i) e ∙ update-other (byteIn w) n x (omega arith)
-
-      new : (w w′ x : ℕ) → byteIn w′ ≡ update (byteIn w) n x → byteIn w′ n ≡ x
-      new w w′ x e = ap (λ (g : ℕ → ℕ). g n) e ∙ update-same (byteIn w) n x
+      (below-same n (pairIn firsts′ seconds′) (pairIn firsts seconds) (λ i l. pair-is (h .below i l) (h′ .below i l)))
+      (pair-is (h .highest) (h′ .highest)))
 
   pub pairs-without : (i firsts′ seconds′ : ℕ) → i < n → Without firsts i firsts′ → Without seconds i seconds′ →
       pairsIn firsts′ seconds′ (n - 1) ≡ take i (pairsIn firsts seconds n) ++ drop (suc i) (pairsIn firsts seconds n)

@@ -29,9 +29,9 @@ tagsOf l = tagsIn (l .items) (l .len)
 abbrev pub pairsOf : Pairs → List Pair
 pairsOf l = pairsIn (l .firsts) (l .seconds) (l .len)
 
--- "queue room Q 1 to 4": its length is one that a row of lengths has; "wait room W 0 to 8"
+-- "queue room Q 1 to 4", "wait room W 0 to 8": a word has eight bytes
 abbrev pub HeldTags : Tags → Type 0
-HeldTags l = l .len < 16
+HeldTags l = l .len ≤ 8
 
 abbrev pub HeldPairs : Pairs → Type 0
 HeldPairs l = l .len ≤ 8

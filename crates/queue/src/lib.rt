@@ -49,7 +49,7 @@ impl Tags {
 
     // The tag with i younger ones.
     pub fn younger(self, i: usize) -> u8
-        requires { ⌜ i < 16 ⌝ }
+        requires { ⌜ i < 8 ⌝ }
         ensures { λ r. ⌜ r ≡ byteIn (self .items) i ⌝ }
     {
         words::byte_at(self.items, i)
@@ -62,21 +62,21 @@ impl Pairs {
         ensures { λ r. ⌜ (pairsOf r ≡ pairsOf self ++ (record { first = first; second = second } ∷ [])) × HeldPairs r ⌝ }
     {
         let n = self.len;
-        self.firsts = words::with_byte(self.firsts, n, first);
-        self.seconds = words::with_byte(self.seconds, n, second);
+        self.firsts = words::with_highest(self.firsts, n, first);
+        self.seconds = words::with_highest(self.seconds, n, second);
         self.len = n + 1;
         self
     }
 
     pub fn first(self, i: usize) -> u8
-        requires { ⌜ i < 16 ⌝ }
+        requires { ⌜ i < 8 ⌝ }
         ensures { λ r. ⌜ r ≡ byteIn (self .firsts) i ⌝ }
     {
         words::byte_at(self.firsts, i)
     }
 
     pub fn second(self, i: usize) -> u8
-        requires { ⌜ i < 16 ⌝ }
+        requires { ⌜ i < 8 ⌝ }
         ensures { λ r. ⌜ r ≡ byteIn (self .seconds) i ⌝ }
     {
         words::byte_at(self.seconds, i)

@@ -1,15 +1,27 @@
 -- The oldest reply taken away and its request marked: the machine's collect.
 use Prim.Native.Nat.{ℕ, _<_}
 use mathlib.Core.Path.{_≡_, refl, ap, _∙_}
+use mathlib.Core.Bool.{false}
 use mathlib.Core.List.{List}
+use native.Mathlib.Omega.{arith}
 use lib.ListN.{length, getD, drop}
+use Rattle.machine.specs.Order.{replying}
 use Rattle.view.specs.View.{View, withReplies, withAnswer}
 use Rattle.shown.specs.Reached.{single}
+use Rattle.shown.proofs.Apart.{other-kind, unanswered, oldest-replying}
+use Rattle.shown.proofs.Reaching.{stands-apart}
 use Rattle.shown.proofs.Collecting.{collect-shows}
 use Rattle.shown.proofs.Events.{collect-moves}
 use Rattle.store.specs.Memory.{view, Becomes}
-use Rattle.moves.specs.Moves.{Moves}
+use Rattle.moves.specs.Moves.{Ready, Moves}
 use Rattle.replies.proofs.Oldest.{oldest-first}
+
+-- a request whose reply stands in a queue is not answered
+pub collected-open : {m m₁ : List ℕ} → Ready m → (e t : ℕ) → 0 < length (view m .replies 0 e) → t ≡ getD (view m .replies 0 e) 0 0 →
+    Becomes m₁ (withReplies (view m) 0 e (drop 1 (view m .replies 0 e))) → view m₁ .answered t ≡ false
+collected-open {m} R e t some oldest popped =
+    let there = oldest-replying (R .network) (view m) 0 e (oldest-first (view m .replies 0 e) t some oldest) in
+    rw (popped .holds) (unanswered (R .network) (view m) (stands-apart (R .stands)) t (replying 0 e) there (other-kind _ _ (λ z. omega arith)))
 
 pub collected : {m m₁ m₂ : List ℕ} (e t : ℕ) → 0 < length (view m .replies 0 e) → t ≡ getD (view m .replies 0 e) 0 0 →
     Becomes m₁ (withReplies (view m) 0 e (drop 1 (view m .replies 0 e))) → Becomes m₂ (withAnswer (view m₁) t) → Moves (single 4 0 e) m m₂

@@ -12,12 +12,14 @@ use borrow.Author.Tests.{eq-eqb, ne-eqb}
 use Rattle.lists.specs.Choice.{choose}
 use Rattle.lists.specs.Table.{listBelow}
 use Rattle.lists.proofs.Below.{below-add}
+use Rattle.words.specs.Digits.{byteIn}
 use Rattle.wiring.specs.Wiring.{positionOn}
 use Rattle.view.specs.View.{Pair, View, withOrder}
 use Rattle.queue.specs.Queue.{pairIn, pairsIn}
 use Rattle.shown.specs.Shown.{secondsFor, tagsFor}
 use Rattle.store.specs.Layout.{size}
 use Rattle.store.specs.Memory.{view, Becomes}
+use Rattle.replies.specs.Returns.{WaitsFit}
 
 -- ---- what the second tags of t's records among the first i stand for
 module _ (upTo : ℕ → List ℕ) (t : ℕ) where
@@ -44,6 +46,22 @@ module _ (upTo : ℕ → List ℕ) (t : ℕ) where
 
     pub sofar-miss : (i : ℕ) → f i .first ≢ t → sofar (i + 1) ≡ sofar i
     sofar-miss i e = one-more i ∙ ap (λ (l : List ℕ). sofar i ++ l) (rw (ne-eqb (f i .first) t e)) ∙ append-nil (sofar i)
+
+    -- places without t put out nothing
+    pub sofar-none : (i : ℕ) → ((j : ℕ) → j < i → f j .first ≢ t) → sofar i ≡ []
+    unfolding listBelow
+    sofar-none zero h = refl
+    sofar-none (suc i) h = ap sofar (sym (add-one i)) ∙ sofar-miss i (h i (omega arith)) ∙ sofar-none i (λ j l. h j (omega arith))
+
+    -- where the loop ends, what was put out is that of all n records: it may start behind the last of them
+    abbrev pub Past : ℕ → ℕ → Type 0
+    Past n i = n ≤ i → sofar i ≡ sofar n
+
+    pub past-none : (n i : ℕ) → ((j : ℕ) → j < i → f j .first ≢ t) → Past n i
+    past-none n i h l = sofar-none i h ∙ sym (sofar-none n (λ j below. h j (omega arith)))
+
+    pub past-next : (n i : ℕ) → i < n → Past n (i + 1)
+    past-next n i l h = ap sofar (omega arith)
 
     pub sofar-grows : (i n : ℕ) → i ≤ n → length (sofar i) ≤ length (sofar n)
     sofar-grows i n h =
@@ -87,9 +105,13 @@ order-more v xs ys = rw (append-assoc (v .order) xs ys)
 abbrev pub under : View → ℕ → ℕ → List ℕ
 under v level = tagsFor (v .fixed .path) (v .waits) (level - 1)
 
-pub put-none : (m : List ℕ) (level t firsts seconds : ℕ) → length m ≡ size → Becomes m (withOrder (view m) (sofar (under (view m) level) t (pairIn firsts seconds) 0))
-unfolding listBelow
-put-none m level t firsts seconds sized = record { sized = sized; holds = rw (append-nil (view m .order)) }
+pub fit-kept : {v : View} {m′ : List ℕ} (l : List ℕ) → WaitsFit v → Becomes m′ (withOrder v l) → WaitsFit (view m′)
+fit-kept l F b = record { few = λ s p. rw (b .holds) (F .few s p) }
+
+pub put-none : (m : List ℕ) (level t firsts seconds i : ℕ) → length m ≡ size → ((j : ℕ) → j < i → byteIn firsts j ≢ t) →
+    Becomes m (withOrder (view m) (sofar (under (view m) level) t (pairIn firsts seconds) i))
+put-none m level t firsts seconds i sized none =
+    record { sized = sized; holds = rw (sofar-none (under (view m) level) t (pairIn firsts seconds) i none, append-nil (view m .order)) }
 
 module _ (m₀ : List ℕ) {m : List ℕ} (level t firsts seconds i : ℕ) (put : Becomes m (withOrder (view m₀) (sofar (under (view m₀) level) t (pairIn firsts seconds) i))) where
   pub put-hit : {m′ m″ : List ℕ} (first second : ℕ) → first ≡ pairIn firsts seconds i .first → first ≡ t → second ≡ pairIn firsts seconds i .second → m″ ≡ m′ →
@@ -111,11 +133,15 @@ module _ (m m₀ : List ℕ) (level t p firsts seconds n : ℕ) (up : level ≢ 
   tags-all : tagsFor (view m .fixed .path) (view m .waits) level t ≡ under (view m) level t ++ sofar (under (view m) level) t (pairIn firsts seconds) n
   tags-all = tags-up (view m .fixed .path) (view m .waits) level t p firsts seconds n up (rw (first .holds) at on) (rw (first .holds) at loaded)
 
-  pub put-all : {m′ : List ℕ} (i : ℕ) → i ≡ n → Becomes m′ (withOrder (view m₀) (sofar (under (view m₀) level) t (pairIn firsts seconds) i)) →
+  pub put-all : {m′ : List ℕ} (i : ℕ) → sofar (under (view m₀) level) t (pairIn firsts seconds) i ≡ sofar (under (view m₀) level) t (pairIn firsts seconds) n →
+      Becomes m′ (withOrder (view m₀) (sofar (under (view m₀) level) t (pairIn firsts seconds) i)) →
       Becomes m′ (withOrder (view m) (tagsFor (view m .fixed .path) (view m .waits) level t))
   put-all {m′} i e b =
-      let is : view m′ ≡ withOrder (withOrder (view m) (under (view m) level t)) (sofar (under (view m) level) t (pairIn firsts seconds) n) = rw (first .holds, e) at (b .holds) in
+      let is : view m′ ≡ withOrder (withOrder (view m) (under (view m) level t)) (sofar (under (view m) level) t (pairIn firsts seconds) n) = rw (e, first .holds) at (b .holds) in
       record { sized = b .sized; holds = is ∙ order-more (view m) _ _ ∙ ap (withOrder (view m)) (sym tags-all) }
+
+  pub put-empty : n ≡ 0 → Becomes m₀ (withOrder (view m) (tagsFor (view m .fixed .path) (view m .waits) level t))
+  put-empty e = put-all n refl (put-none m₀ level t firsts seconds n (first .sized) (λ j l. absurd (omega arith)))
 
   -- a record's second tag has room behind those before it
   pub second-room : {m₁ : List ℕ} (i u v : ℕ) → i < n → u ≡ pairIn firsts seconds i .first → u ≡ t → v ≡ pairIn firsts seconds i .second →

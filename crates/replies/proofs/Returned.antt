@@ -32,6 +32,10 @@ use Rattle.moves.specs.Moves.{Moves}
 use Rattle.replies.specs.Returns.{Lowered, SplitOff}
 use Rattle.replies.proofs.Oldest.{oldest-first}
 
+-- as many as the machine's buffer has
+pub length-loaded : (waits : Pairs) {l : List Pair} → pairsOf waits ≡ l → waits .len ≡ length l
+length-loaded waits e = sym (length-below (waits .len) (pairIn (waits .firsts) (waits .seconds))) ∙ ap length e
+
 -- ---- t itself goes down
 module _ (m : List ℕ) (level s p t to : ℕ) (up : level ≡ suc s) (on : to ≡ positionOn (view m .fixed .path t) s) where
   pub lower-full : length m ≡ size → view m .fixed .q ≤ length (view m .replies s to) → Lowered (view m) s p t m
@@ -66,6 +70,17 @@ module _ (m : List ℕ) (level s p t to u : ℕ) (pairs : List Pair) (i : ℕ) (
     split = rw (← second, ← on, lt-ltb _ _ room, ← up, ← gone, ← operation, ← was, ← answered, stored .holds, pushed .holds, set .holds);
   }
 
+-- the buffer has one record less than the machine's
+pub one-less : (m : List ℕ) {m₁ m₂ : List ℕ} (level p i : ℕ) (waits fewer : Pairs) → i < waits .len → waits .len ≡ length (view m .waits level p) →
+    pairsOf fewer ≡ take i (pairsOf waits) ++ drop (suc i) (pairsOf waits) → (u : ℕ) (x : Words) → Becomes m₁ (withCarried (view m) u x) →
+    (s to : ℕ) (l : List ℕ) → Becomes m₂ (withReplies (view m₁) s to l) → suc (fewer .len) ≡ length (view m₂ .waits level p)
+one-less m level p i waits fewer h size gone u x set s to l pushed =
+    let pairs = pairsOf waits in
+    let n = ap length gone ∙ length-append (take i pairs) (drop (suc i) pairs) in
+    let is = length-loaded fewer refl in
+    let was = length-loaded waits refl in
+    rw (pushed .holds, set .holds) (omega (arith, n, is, was, size, length-take i pairs, length-drop (suc i) pairs))
+
 -- ---- the step
 -- a record that is found stands among those that were loaded
 pub found-within : (t : ℕ) (waits : Pairs) (i : ℕ) → foundAt (pairsOf waits) (At i) ≡ firstOf (λ (r : Pair). eqb (r .first) t) (pairsOf waits) → i < waits .len
@@ -74,7 +89,7 @@ found-within t waits i is =
     let f : First (λ (r : Pair). eqb (r .first) t) pairs (foundAt pairs (At i)) =
     subst (λ (f : Found Pair). First (λ (r : Pair). eqb (r .first) t) pairs f) (sym is) (firstOf-is (λ (r : Pair). eqb (r .first) t) pairs) in
     let n = ap length (f .0) ∙ length-append (take i pairs) (getD pairs i noPair ∷ drop (suc i) pairs) in
-    omega (arith, n, length-take i pairs, length-drop (suc i) pairs, length-below (waits .len) (pairIn (waits .firsts) (waits .seconds)))
+    omega (arith, n, length-take i pairs, length-drop (suc i) pairs, length-loaded waits refl)
 
 module _ (m : List ℕ) (level p t : ℕ) (up : 0 < level) (low : level ≤ view m .fixed .k) (some : 0 < length (view m .replies level p))
     (oldest : t ≡ getD (view m .replies level p) 0 0) where

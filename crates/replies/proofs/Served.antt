@@ -36,6 +36,9 @@ module _ {m words : List ℕ} (R : ReadyWith m words) (k : ℕ) (isK : k ≡ vie
   module-level : (x : Network) → Stands x (view m) (wordsIn words) → k ≡ x .k
   module-level x S = isK ∙ S .fits .k-is
 
+  pub level-fits : (0 < k) × (k < 5)
+  level-fits = (omega (arith, isK, shape-small (R .stands)), omega (arith, isK, shape-small (R .stands)))
+
   module _ (p : ℕ) where
     -- "Nothing happens if the reply queue is full"
     pub served-full : view m .fixed .q ≤ length (view m .replies k p) → MovesWith (single 2 (view m .fixed .k) p) m words m words

@@ -1,5 +1,5 @@
 -- What becomes of a reply one level down, by the way it is taken: level s + 1 is where it stands.
-use Prim.Native.Nat.{ℕ, suc}
+use Prim.Native.Nat.{ℕ, suc, _≤_}
 use mathlib.Core.Path.{_≡_}
 use mathlib.Core.List.{List, [], _∷_, _++_}
 use lib.Dec.{ltb}
@@ -12,6 +12,10 @@ use Rattle.shown.specs.Shown.{operationIn, valued}
 use Rattle.queue.specs.Queue.{noPair}
 use Rattle.store.specs.Layout.{size}
 use Rattle.store.specs.Memory.{view}
+
+-- "wait room W 0 to 8"
+pub record WaitsFit (v : View) : Type 0 where
+  pub few : (s p : ℕ) → length (v .waits s p) ≤ 8
 
 -- "t itself moves one level down. If the target queue is full nothing changes."
 pub record Lowered (v : View) (s p t : ℕ) (m′ : List ℕ) : Type 0 where

@@ -17,7 +17,7 @@ ghost use Rattle.store.specs.Layout.{size};
 ghost use Rattle.store.specs.Memory.{view, Becomes};
 ghost use Rattle.shown.specs.Reached.{single};
 ghost use Rattle.moves.specs.Moves.{Ready, ReadyWith, Moves, MovesWith};
-ghost use Rattle.replies.specs.Returns.{Lowered, SplitOff};
+ghost use Rattle.replies.specs.Returns.{Lowered, SplitOff, WaitsFit};
 
 // "take the oldest message, put (tag, old value) at the end of the reply queue here, store f(old)"
 pub fn module_step(m: &mut Machine, words: &mut [u64; 256], position: usize)
@@ -57,6 +57,7 @@ fn exchange(m: &Machine, words: &mut [u64; 256], t: u8) -> u64
 fn expand(m: &mut Machine, level: usize, t: u8)
     requires { ⌜ length (now m) ≡ size ⌝ }
     requires { ⌜ level < 5 ⌝ }
+    requires { ⌜ WaitsFit (view (now m)) ⌝ }
     requires { ⌜ length (view (now m) .order) + length (tagsFor (view (now m) .fixed .path) (view (now m) .waits) level t) ≤ 256 ⌝ }
     ensures { λ _. ⌜ Becomes (now (m .exit)) (withOrder (view (now (m .entry))) (tagsFor (view (now (m .entry)) .fixed .path) (view (now (m .entry)) .waits) level t)) ⌝ }
 {
@@ -68,7 +69,10 @@ fn expand(m: &mut Machine, level: usize, t: u8)
     let p = tags::position_of(m, t, level);
     let waits = queues::load_waits(m, level, p);
     let n = waits.len;
-    let mut i = 0;
+    if n == 0 {
+        return;
+    }
+    let mut i = words::place_of(waits.firsts, t);
     while i < n {
         if waits.first(i) == t {
             let second = waits.second(i);
@@ -117,7 +121,7 @@ fn lower(m: &mut Machine, level: usize, position: usize, t: u8)
 fn split(m: &mut Machine, level: usize, position: usize, t: u8, waits: Pairs, i: usize)
     requires { ⌜ length (now m) ≡ size ⌝ }
     requires { ⌜ (0 < level) × (level < 5) × (position < 16) × (view (now m) .fixed .q ≤ 4) ⌝ }
-    requires { ⌜ HeldPairs waits × (i < waits .len) ⌝ }
+    requires { ⌜ HeldPairs waits × (i < waits .len) × (waits .len ≡ length (view (now m) .waits level position)) ⌝ }
     ensures { λ _. ⌜ SplitOff (view (now (m .entry))) (level - 1) position t (pairsOf waits) i (now (m .exit)) ⌝ }
 {
     let second = waits.second(i);
@@ -129,7 +133,7 @@ fn split(m: &mut Machine, level: usize, position: usize, t: u8, waits: Pairs, i:
         tags::set_value(m, second, answer);
         queues::push_reply(m, below, target, second);
         let fewer = waits.removed(i);
-        queues::store_waits(m, level, position, fewer);
+        queues::store_shorter_waits(m, level, position, fewer);
     }
 }
 

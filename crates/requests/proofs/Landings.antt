@@ -5,16 +5,19 @@ use mathlib.Core.Logic.{_≢_}
 use mathlib.Core.Bool.{true, false}
 use mathlib.Core.List.{List}
 use native.Mathlib.Omega.{arith}
+use lib.ListN.{length}
 use Rattle.lists.specs.Count.{count}
 use Rattle.lists.specs.Table.{update2}
 use Rattle.lists.proofs.Tables.{update2-same, update2-idle}
+use Rattle.lists.proofs.Below.{length-below, length-down}
+use Rattle.words.specs.Digits.{byteIn}
 use Rattle.operation.specs.declared.Words.{Words}
 use Rattle.machine.specs.Arrival.{arrive}
 use Rattle.view.specs.View.{Pair, View, withRequests, withWaits, withMerge}
 use Rattle.shown.specs.Network.{Network, setup}
 use Rattle.shown.specs.Shown.{messageOf}
 use Rattle.shown.specs.Landing.{Came, cameMerged, cameAppended, cameRefused, nodeOf, arrivalOf, mergesAfter, withNode, Landed}
-use Rattle.queue.specs.Queue.{tagsOf, pairsOf}
+use Rattle.queue.specs.Queue.{tagsOf, pairIn, pairsOf}
 use Rattle.store.specs.Memory.{view, Becomes}
 use Rattle.node.specs.Node.{Apart, cameOf, carrying, ArrivedAt}
 use Rattle.node.specs.declared.Node.{Node}
@@ -88,6 +91,27 @@ module _ {n : Node} {v : View} {t s p q w : ℕ} (L : Loaded n v t s p q w) {m�
 
   loaded-others : (u : ℕ) → u ≢ t → count (λ (w : ℕ). w) u (v .requests s p) ≡ 0 → view m₁ .carried u ≡ v .carried u
   loaded-others u d h = A .others u d (ap (count (λ (w : ℕ). w) u) (L .inQueue) ∙ h)
+
+  -- an append makes the machine's queue longer by one, a merge its wait buffer
+  pub longer-by-one : r .outcome ≡ Appended → r .node .queue .len ≡ suc (length (view m₁ .requests s p))
+  longer-by-one o =
+      omega (
+        arith,
+        A .longer o,
+        length-down (n .queue .len) (byteIn (n .queue .items)),
+        ap (length {A = ℕ}) (L .inQueue),
+        ap (λ (y : View). length (y .requests s p)) (A .changes),
+      )
+
+  pub recorded-by-one : r .outcome ≡ Merged → r .node .waiting .len ≡ suc (length (view m₁ .waits s p))
+  recorded-by-one o =
+      omega (
+        arith,
+        A .recorded o,
+        length-below (n .waiting .len) (pairIn (n .waiting .firsts) (n .waiting .seconds)),
+        ap (length {A = Pair}) (L .inWaiting),
+        ap (λ (y : View). length (y .waits s p)) (A .changes),
+      )
 
   -- what is stored, where it was not refused
   module _ (came : Came) (c : cameOf (r .outcome) ≡ came) (moved : came ≢ cameRefused) where

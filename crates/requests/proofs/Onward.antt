@@ -1,5 +1,5 @@
 -- A request goes on a level: what `issue` and `forward` ask for and promise, by the way taken. An issue is a forward from level 0.
-use Prim.Native.Nat.{ℕ, suc, _+_, _≤_, _<_}
+use Prim.Native.Nat.{ℕ, suc, _+_, _-_, _≤_, _<_}
 use mathlib.Core.Path.{_≡_, refl, sym, ap, subst, _∙_}
 use mathlib.Core.Logic.{_≢_}
 use mathlib.Core.Bool.{Bool, true, false}
@@ -25,6 +25,7 @@ use Rattle.shown.specs.Landing.{Came, cameMerged, cameAppended, cameRefused, La
 use Rattle.shown.specs.Reached.{single, Stands}
 use Rattle.shown.proofs.Rely.{merges-few}
 use Rattle.shown.proofs.Reaching.{stands-sound}
+use Rattle.shown.proofs.Rooms.{requests-few, waits-few}
 use Rattle.shown.proofs.Events.{issue-is, forward-is}
 use Rattle.shown.proofs.Forwards.{oldest-first, landed-fixed, landed-rounds, forward-apart, forward-full, forward-stays, forward-shows}
 use Rattle.shown.proofs.Issues.{issue-shows}
@@ -57,8 +58,12 @@ rooms {m} R =
 pub levels-few : {m : List ℕ} → Ready m → view m .fixed .k ≤ 4
 levels-few {m} R = rw (R .stands .fits .k-is) (R .stands .fits .ranges .k-most)
 
-requests-few : {m : List ℕ} → Ready m → view m .fixed .count ≤ 256
-requests-few {m} R = rw (R .stands .fits .count-is) (R .stands .fits .ranges .R-most)
+count-few : {m : List ℕ} → Ready m → view m .fixed .count ≤ 256
+count-few {m} R = rw (R .stands .fits .count-is) (R .stands .fits .ranges .R-most)
+
+-- a queue of the network is not longer than its room
+pub queue-few : {m : List ℕ} → Ready m → (s p : ℕ) → 0 < s → length (view m .requests s p) ≤ 8
+queue-few {m} R s p up = let e : s ≡ suc (s - 1) = omega arith in rw e (omega (arith, requests-few (R .stands) (s - 1) p))
 
 -- ---- the events take the oldest of level s, position p, on to the next level
 pub record Going (m : List ℕ) (es : List Event) (s p t to : ℕ) : Type 0 where
@@ -78,6 +83,9 @@ module _ {m : List ℕ} {es : List Event} {s p t to : ℕ} (G : Going m es s p t
 
   pub going-apart : Apart t (view m .requests (s + 1) to) (view m .waits (s + 1) to)
   going-apart = let f = first (G .ready .network) in rw add-one (forward-apart (G .ready .stands) s p t (f .0) (f .1) to)
+
+  pub going-few : (length (view m .requests (s + 1) to) ≤ 4) × (length (view m .waits (s + 1) to) ≤ 8)
+  going-few = rw add-one (requests-few (G .ready .stands) s to, waits-few (G .ready .stands) (suc s) to)
 
   -- neither the queue nor the wait buffer has room
   pub full-moves : {r : Bool} → r ≡ both (leb (view m .fixed .q) (length (view m .requests (s + 1) to))) (leb (view m .fixed .w) (length (view m .waits (s + 1) to)))
@@ -101,8 +109,8 @@ module _ {m : List ℕ} {es : List Event} {s p t to : ℕ} (G : Going m es s p t
     fixed-stays : view m₁ .fixed ≡ view m .fixed
     fixed-stays = landed-fixed landed
 
-    pub requests-still-few : view m₁ .fixed .count ≤ 256
-    requests-still-few = rw fixed-stays (requests-few (G .ready))
+    pub count-still-few : view m₁ .fixed .count ≤ 256
+    count-still-few = rw fixed-stays (count-few (G .ready))
 
     source-stays : view m₁ .requests s p ≡ view m .requests s p
     source-stays = ap (λ (y : View). y .requests s p) (landed .changes) ∙ update2-other (view m .requests) (suc s) to _ s p (λ e. omega (arith, e .0))

@@ -22,7 +22,7 @@ pub fn issue(m: &mut Machine, e: usize)
     requires { ⌜ (e < 16) × (0 < length (view (now m) .requests 0 e)) ⌝ }
     ensures { λ _. ⌜ Moves (single 0 0 e) (now (m .entry)) (now (m .exit)) ⌝ }
 {
-    let t = queues::oldest_request(m, 0, e);
+    let t = queues::next_of(m, e);
     let to = tags::position_of(m, t, 1);
     if is_full(m, 1, to) {
         return;
@@ -52,7 +52,7 @@ pub fn forward(m: &mut Machine, level: usize, position: usize)
 
 // Neither the queue nor the wait buffer has room: told before anything is loaded, for that is most of what happens in a jammed network.
 fn is_full(m: &Machine, level: usize, position: usize) -> bool
-    requires { ⌜ (level < 5) × (position < 16) ⌝ }
+    requires { ⌜ (0 < level) × (level < 5) × (position < 16) ⌝ }
     ensures { λ r. ⌜ r ≡ both (leb (view (now (m .entry)) .fixed .q) (length (view (now (m .entry)) .requests level position))) (leb (view (now (m .entry)) .fixed .w) (length (view (now (m .entry)) .waits level position))) ⌝ }
 {
     if queues::request_count(m, level, position) < shape::queue_room(m) {
@@ -64,7 +64,8 @@ fn is_full(m: &Machine, level: usize, position: usize) -> bool
 // The message t arrives at a level and position; whether it could.
 fn arrive_at(m: &mut Machine, t: u8, level: usize, position: usize) -> bool
     requires { ⌜ length (now m) ≡ size ⌝ }
-    requires { ⌜ (level < 5) × (position < 16) × (view (now m) .fixed .q ≤ 4) × (view (now m) .fixed .w ≤ 8) × (view (now m) .merges < 65536) ⌝ }
+    requires { ⌜ (0 < level) × (level < 5) × (position < 16) × (length (view (now m) .requests level position) ≤ 4) × (length (view (now m) .waits level position) ≤ 8) ⌝ }
+    requires { ⌜ (view (now m) .fixed .q ≤ 4) × (view (now m) .fixed .w ≤ 8) × (view (now m) .merges < 65536) ⌝ }
     requires { ⌜ Apart t (view (now m) .requests level position) (view (now m) .waits level position) ⌝ }
     ensures { λ r. ⌜ Went (view (now (m .entry))) t level position (now (m .exit)) r ⌝ }
 {
@@ -83,12 +84,12 @@ fn arrive_at(m: &mut Machine, t: u8, level: usize, position: usize) -> bool
         Outcome::Refused => false,
         Outcome::Appended => {
             let longer = after.queue;
-            queues::store_requests(m, level, position, longer);
+            queues::store_longer_requests(m, level, position, longer);
             true
         }
         Outcome::Merged => {
             let recorded = after.waiting;
-            queues::store_waits(m, level, position, recorded);
+            queues::store_longer_waits(m, level, position, recorded);
             shape::add_merge(m);
             true
         }

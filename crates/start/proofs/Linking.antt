@@ -2,13 +2,13 @@
 use Prim.Native.Nat.{ℕ, suc, _+_, _-_, _≤_, _<_, _^_}
 use mathlib.Core.Path.{_≡_, refl, sym, ap, _∙_}
 use mathlib.Core.Logic.{_≢_}
-use mathlib.Core.Bool.{false}
+use mathlib.Core.Bool.{Bool, true, false}
 use mathlib.Core.List.{List, [], _∷_}
 use native.Mathlib.Decide.{ℕ-discrete}
 use native.Mathlib.Omega.{arith}
 use lib.Dec.{eqb, ltb}
 use lib.ListN.{length, getD}
-use borrow.Author.Tests.{eq-eqb, ne-eqb, lt-ltb, le-ltb}
+use borrow.Author.Tests.{eqb-false, eq-eqb, ne-eqb, lt-ltb, le-ltb}
 use Rattle.lists.specs.Choice.{choose}
 use Rattle.lists.specs.Table.{update, update2}
 use Rattle.lists.proofs.Tests.{by-cases, ltb-cases}
@@ -195,11 +195,15 @@ linking-more m₀ m count t so-far some m′ more = record {
 }
 
 -- ---- one request, as it is stored
-pub first-none : (v : View) (e n : ℕ) → n ≡ length (v .requests 0 e) → n ≡ 0 → v .fixed .count ≡ firstIn v e
-first-none v e n size none = rw (eq-eqb (length (v .requests 0 e)) 0 (sym size ∙ none))
+module _ (v : View) (e : ℕ) {none : Bool} (told : none ≡ eqb (length (v .requests 0 e)) 0) where
+  pub first-none : none ≡ true → v .fixed .count ≡ firstIn v e
+  first-none is = rw (sym told ∙ is)
 
-pub first-some : (v : View) (e n : ℕ) → n ≡ length (v .requests 0 e) → n ≢ 0 → getD (v .requests 0 e) 0 0 ≡ firstIn v e
-first-some v e n size some = rw (ne-eqb (length (v .requests 0 e)) 0 (λ z. some (size ∙ z)))
+  pub first-some : none ≡ false → getD (v .requests 0 e) 0 0 ≡ firstIn v e
+  first-some is = rw (sym told ∙ is)
+
+  pub first-there : none ≡ false → 0 < length (v .requests 0 e)
+  first-there is = let some : length (v .requests 0 e) ≢ 0 = eqb-false (length (v .requests 0 e)) 0 (sym told ∙ is) in omega arith
 
 pub link-stored : (v v′ v″ : View) (t e n : ℕ) → e ≡ positionOn (v .fixed .path t) 0 → n ≡ firstIn v e → v′ ≡ withFixed v (linked (v .fixed) t n) →
     v″ ≡ withRequests v′ 0 e (choose (ltb t (v′ .fixed .count)) (t ∷ []) []) →

@@ -40,8 +40,8 @@ fn first_of(m: &Machine, e: usize) -> usize
     requires { ⌜ (e < 16) × (view (now m) .fixed .count ≤ 256) ⌝ }
     ensures { λ r. ⌜ (r ≡ firstIn (view (now (m .entry))) e) × (r ≤ 256) ⌝ }
 {
-    if queues::request_count(m, 0, e) == 0 {
+    if queues::no_request(m, 0, e) {
         return shape::requests_in(m);
     }
-    queues::oldest_request(m, 0, e) as usize
+    queues::next_of(m, e) as usize
 }

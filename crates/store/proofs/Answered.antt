@@ -17,7 +17,7 @@ use Rattle.lists.specs.Table.{update, listBelow}
 use Rattle.lists.proofs.Tests.{by-cases, ltb-cases}
 use Rattle.lists.proofs.Tables.{update-same, update-other}
 use Rattle.lists.proofs.Below.{length-below, getD-below, below-same}
-use Rattle.words.specs.Digits.{digit, byteIn, bitIn}
+use Rattle.words.specs.Digits.{digit, byteIn, bitIn, Topped}
 use Rattle.words.proofs.Digits.{digit-lt, digits-same}
 use Rattle.view.specs.View.{withAnswer, withOrder}
 use Rattle.store.specs.Layout.{size, atEvery, atAnswered, atOrdered, atOrder}
@@ -61,10 +61,6 @@ answer-set m fits t w l e =
 
 -- ---- one tag more in the order list
 
-below-append : (n : ℕ) (f : ℕ → ℕ) (t : ℕ) → listBelow (suc n) (update f n t) ≡ listBelow n f ++ (t ∷ [])
-unfolding listBelow
-below-append n f t = rw (update-same f n t) (ap (λ (l : List ℕ). l ++ (t ∷ [])) (below-same n (update f n t) f (λ i h. update-other f n t (omega arith))))
-
 module _ (m : List ℕ) (fits : length m ≡ size) (t w : ℕ) where
   abbrev n : ℕ
   n = getD m atOrdered 0
@@ -75,18 +71,32 @@ module _ (m : List ℕ) (fits : length m ≡ size) (t w : ℕ) where
   abbrev m₂ : List ℕ
   m₂ = set m₁ atOrdered (n + 1)
 
-  pub order-appended : n < 256 → byteIn w ≡ update (byteIn (getD m (atOrder + n / 8) 0)) (n % 8) t → Becomes m₂ (withOrder (view m) (t ∷ []))
-  unfolding view orderIn
-  order-appended l e =
-      let bytes : bytesAt atOrder m₂ ≡ update (bytesAt atOrder m) n t =
-      tags-changed 0 _ _ n t l
-      (rw (getD-set-other m₁ atOrdered (atOrder + n / 8) (n + 1) 0 (omega arith)) (number-here 8 8 atOrder m n w t (omega arith) e))
-      (λ s a d. rw (getD-set-other m₁ atOrdered (atOrder + s / 8) (n + 1) 0 (omega arith)) (number-other 8 8 atOrder m n w t (omega arith) e s d)) in
-      let long : getD m₂ atOrdered 0 ≡ suc n = getD-set-same m₁ atOrdered (n + 1) 0 (rw length-set (omega arith)) ∙ add-one n in
-      let list : orderIn m₂ ≡ orderIn m ++ (t ∷ []) = ap₂ (λ (k : ℕ) (f : ℕ → ℕ). listBelow k f) long bytes ∙ below-append n (bytesAt atOrder m) t in
-      becomes atOrdered 1 atOrder 32 m m₂
-      (λ k f g. getD-set-other m₁ atOrdered k (n + 1) 0 (λ z. f (omega arith)) ∙ getD-set-other m (atOrder + n / 8) k w 0 (λ z. g (omega arith)))
-      (rw (length-set, length-set) fits) (rw list)
+  module _ (l : n < 256) (e : Topped (getD m (atOrder + n / 8) 0) (n % 8) t w) where
+    byte-here : byteIn (getD m₂ (atOrder + n / 8) 0) (n % 8) ≡ t
+    byte-here = rw (getD-set-other m₁ atOrdered (atOrder + n / 8) (n + 1) 0 (omega arith), getD-set-same m (atOrder + n / 8) w 0 (omega arith)) (e .highest)
+
+    -- an earlier one stands below it in its word, or in another word
+    byte-before : (i : ℕ) → i < n → byteIn (getD m₂ (atOrder + i / 8) 0) (i % 8) ≡ byteIn (getD m (atOrder + i / 8) 0) (i % 8)
+    byte-before i h =
+        rw (getD-set-other m₁ atOrdered (atOrder + i / 8) (n + 1) 0 (omega arith))
+        (by-cases (ℕ-discrete (i / 8) (n / 8))
+        (λ (q : i / 8 ≡ n / 8). rw (q, getD-set-same m (atOrder + n / 8) w 0 (omega arith)) (e .below (i % 8) (omega arith)))
+        (λ (q : i / 8 ≢ n / 8). rw (getD-set-other m (atOrder + n / 8) (atOrder + i / 8) w 0 (omega arith))))
+
+    list : orderIn m₂ ≡ orderIn m ++ (t ∷ [])
+    unfolding orderIn listBelow
+    list =
+        ap (λ (k : ℕ). listBelow k (bytesAt atOrder m₂)) (getD-set-same m₁ atOrdered (n + 1) 0 (rw length-set (omega arith)) ∙ add-one n)
+        ∙ ap₂ (λ (xs : List ℕ) (x : ℕ). xs ++ (x ∷ []))
+        (below-same n (bytesAt atOrder m₂) (bytesAt atOrder m) (λ i h. rw (lt-ltb i 256 (omega arith)) (byte-before i h)))
+        (rw (lt-ltb n 256 l) byte-here)
+
+    pub order-appended : Becomes m₂ (withOrder (view m) (t ∷ []))
+    unfolding view
+    order-appended =
+        becomes atOrdered 1 atOrder 32 m m₂
+        (λ k f g. getD-set-other m₁ atOrdered k (n + 1) 0 (λ z. f (omega arith)) ∙ getD-set-other m (atOrder + n / 8) k w 0 (λ z. g (omega arith)))
+        (rw (length-set, length-set) fits) (rw list)
 
 pub order-length : (m : List ℕ) → length (view m .order) ≡ getD m atOrdered 0
 unfolding view orderIn
@@ -103,6 +113,12 @@ order-here m i l h =
 pub answered-here : (m : List ℕ) (t : ℕ) → t < 256 → view m .answered t ≡ eqb (bitIn (getD m (atAnswered + t / 64) 0) (t % 64)) 1
 unfolding view
 answered-here m t l = rw (lt-ltb t 256 l)
+
+pub answered-none : (m : List ℕ) (t : ℕ) → t < 256 → view m .answered t ≡ false → bitIn (getD m (atAnswered + t / 64) 0) (t % 64) ≡ 0
+answered-none m t l e =
+    let mark = bitIn (getD m (atAnswered + t / 64) 0) (t % 64) in
+    let n : mark ≢ 1 = eqb-false mark 1 (sym (answered-here m t l) ∙ e) in
+    omega (arith, digit-lt 1 (getD m (atAnswered + t / 64) 0) (t % 64))
 
 every-here : (m : List ℕ) (t : ℕ) → t < 256 → view m .fixed .every t ≡ eqb (bitIn (getD m (atEvery + t / 64) 0) (t % 64)) 1
 unfolding view fixedIn

@@ -1,22 +1,23 @@
 -- An array of zeros holds nothing: a machine starts from it.
 use Prim.Native.Nat.{ℕ, _+_, _/_, _%_, _<_}
-use mathlib.Core.Path.{_≡_, ap}
+use mathlib.Core.Path.{_≡_, ap, _∙_}
 use mathlib.Core.Bool.{false}
 use mathlib.Core.List.{List, []}
 use native.Mathlib.Decide.{decLt}
 use native.Mathlib.Omega.{arith}
 use lib.Dec.{eqb}
 use lib.ListN.{getD, replicate, length-replicate, getD-replicate, List·getD-eq-default}
-use Rattle.lists.specs.Table.{downFrom, listBelow}
+use Rattle.lists.specs.Table.{listBelow}
 use Rattle.lists.proofs.Tests.{by-cases}
 use Rattle.words.specs.Digits.{bitIn}
 use Rattle.words.proofs.Digits.{digit-none}
 use Rattle.view.specs.View.{blank}
 use Rattle.store.specs.Layout.{size, atK, atQ, atW, atCount, atEvery, atAnswered, atOrdered, atAccesses, atMerges, atRounds, atRequestLengths, atReplyLengths, atWaitLengths}
 use Rattle.store.specs.Layout.{atOrder, atRequests, atReplies, atFirsts, atSeconds, atHeads, atFirstOperands, atSecondOperands}
-use Rattle.store.specs.Memory.{columnAt, marksAt, queuesAt, buffersAt, codeOf, addressOf, pathOf, afterOf, fixedIn, carriedIn, orderIn, bytesAt, view, Becomes}
+use Rattle.store.specs.Memory.{columnAt, marksAt, requestsAt, buffersAt, codeOf, addressOf, pathOf, afterOf, fixedIn, carriedIn, orderIn, bytesAt, view, Becomes}
 use Rattle.store.proofs.Grid.{grid-empty}
 use Rattle.store.proofs.Columns.{tags-none}
+use Rattle.store.proofs.Held.{Reading, heldAt, requests-held, Told, tags-told, requests-told}
 
 module _ (m : List ℕ) (none : (k : ℕ) → getD m k 0 ≡ 0) where
   column-none : (from : ℕ) → columnAt from m ≡ (λ t. 0)
@@ -25,9 +26,11 @@ module _ (m : List ℕ) (none : (k : ℕ) → getD m k 0 ≡ 0) where
   marks-none : (from : ℕ) → marksAt from m ≡ (λ t. false)
   marks-none from = tags-none false (λ t. eqb (bitIn (getD m (from + t / 64) 0) (t % 64)) 1) (λ t. rw (none (from + t / 64), digit-none))
 
-  queues-none : (lengths from : ℕ) → queuesAt lengths from m ≡ (λ s p. [])
-  unfolding downFrom
-  queues-none lengths from = grid-empty _ (λ s p. rw (none (lengths + s), digit-none))
+  held-none : {read : Reading} → Told read → (lengths from : ℕ) → heldAt read lengths from m ≡ (λ s p. [])
+  held-none t lengths from = grid-empty _ (λ s p. rw (none (lengths + s), digit-none) (t .none s _))
+
+  requests-empty : requestsAt m ≡ (λ s p. [])
+  requests-empty = requests-held m ∙ held-none requests-told atRequestLengths atRequests
 
   buffers-none : (lengths firsts seconds : ℕ) → buffersAt lengths firsts seconds m ≡ (λ s p. [])
   unfolding listBelow
@@ -50,8 +53,8 @@ module _ (m : List ℕ) (none : (k : ℕ) → getD m k 0 ≡ 0) where
         };
         carried = λ t. record { code = codeOf (heads i t); first = column-none atFirstOperands i t; second = column-none atSecondOperands i t };
         answered = marks-none atAnswered i;
-        requests = queues-none atRequestLengths atRequests i;
-        replies = queues-none atReplyLengths atReplies i;
+        requests = requests-empty i;
+        replies = held-none tags-told atReplyLengths atReplies i;
         waits = buffers-none atWaitLengths atFirsts atSeconds i;
         order = ap (λ (n : ℕ). listBelow n (bytesAt atOrder m)) (none atOrdered) i;
         accesses = none atAccesses i;

@@ -1,5 +1,6 @@
 pub mod Grid
 pub mod Columns
+pub mod Held
 pub mod Regions
 pub mod Heads
 pub mod Tagged

@@ -1,6 +1,6 @@
 -- What a write changes of the view: a part that stands in none of the regions of the write is kept.
 use Prim.Native.Nat.{ℕ, _+_, _*_, _/_, _≤_, _<_}
-use mathlib.Core.Path.{_≡_, refl, ap₂, _∙_}
+use mathlib.Core.Path.{_≡_, refl, sym, ap₂, _∙_}
 use mathlib.Core.Bool.{Bool, true, false, false≢true}
 use mathlib.Core.List.{List}
 use native.Mathlib.Omega.{arith}
@@ -13,9 +13,10 @@ use Rattle.lists.proofs.Tests.{test-cases}
 use Rattle.view.specs.View.{View}
 use Rattle.store.specs.Layout.{size, atK, atQ, atW, atCount, atEvery, atAnswered, atOrdered, atAccesses, atMerges, atRounds, atRequestLengths, atReplyLengths, atWaitLengths}
 use Rattle.store.specs.Layout.{atOrder, atRequests, atReplies, atFirsts, atSeconds, atHeads, atFirstOperands, atSecondOperands}
-use Rattle.store.specs.Memory.{wordAt, columnAt, marksAt, bytesAt, queuesAt, buffersAt, codeOf, addressOf, pathOf, afterOf, fixedIn, carriedIn, orderIn, view, Becomes}
+use Rattle.store.specs.Memory.{wordAt, columnAt, marksAt, bytesAt, queuesAt, requestsAt, buffersAt, codeOf, addressOf, pathOf, afterOf, fixedIn, carriedIn, orderIn, view, Becomes}
 use Rattle.store.proofs.Grid.{grid-same}
 use Rattle.store.proofs.Columns.{tags-same}
+use Rattle.store.proofs.Held.{Reading, asTags, asRequests, heldAt, requests-held}
 
 -- k is one of a number of words from a start on
 abbrev pub In : ℕ → ℕ → ℕ → Type 0
@@ -41,8 +42,11 @@ module _ (m m′ : List ℕ) where
   bytes-same : (from : ℕ) → Still from 32 → bytesAt from m′ ≡ bytesAt from m
   bytes-same from e = tags-same 0 _ _ (λ t l. rw (e (from + t / 8) (omega arith)))
 
-  queues-same : (lengths from : ℕ) → Still lengths 5 → Still from 80 → queuesAt lengths from m′ ≡ queuesAt lengths from m
-  queues-same lengths from e f = grid-same _ _ (λ s p a b. rw (e (lengths + s) (omega arith), f (from + (s * 16 + p)) (omega arith)))
+  held-same : (read : Reading) (lengths from : ℕ) → Still lengths 5 → Still from 80 → heldAt read lengths from m′ ≡ heldAt read lengths from m
+  held-same read lengths from e f = grid-same _ _ (λ s p a b. rw (e (lengths + s) (omega arith), f (from + (s * 16 + p)) (omega arith)))
+
+  requests-same : Still atRequestLengths 5 → Still atRequests 80 → requestsAt m′ ≡ requestsAt m
+  requests-same e f = requests-held m′ ∙ held-same asRequests atRequestLengths atRequests e f ∙ sym (requests-held m)
 
   buffers-same : (lengths from : ℕ) → Still lengths 5 → Still from 160 → buffersAt lengths from (from + 80) m′ ≡ buffersAt lengths from (from + 80) m
   buffers-same lengths from e f =
@@ -136,8 +140,8 @@ module _ (a n b l : ℕ) where
       fixed = two fixedIn atK 8 atHeads 256 (fixed-same m m′) i;
       carried = one carriedIn atHeads 768 (carried-same m m′) i;
       answered = one (marksAt atAnswered) atAnswered 4 (marks-same m m′ atAnswered) i;
-      requests = two (queuesAt atRequestLengths atRequests) atRequestLengths 5 atRequests 80 (queues-same m m′ atRequestLengths atRequests) i;
-      replies = two (queuesAt atReplyLengths atReplies) atReplyLengths 5 atReplies 80 (queues-same m m′ atReplyLengths atReplies) i;
+      requests = two requestsAt atRequestLengths 5 atRequests 80 (requests-same m m′) i;
+      replies = two (queuesAt atReplyLengths atReplies) atReplyLengths 5 atReplies 80 (held-same m m′ asTags atReplyLengths atReplies) i;
       waits = two (buffersAt atWaitLengths atFirsts atSeconds) atWaitLengths 5 atFirsts 160 (buffers-same m m′ atWaitLengths atFirsts) i;
       order = two orderIn atOrdered 1 atOrder 32 (order-same m m′) i;
       accesses = word atAccesses i;

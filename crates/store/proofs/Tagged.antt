@@ -1,5 +1,5 @@
 -- What belongs to a tag: read, and written.
-use Prim.Native.Nat.{ℕ, _+_, _*_, _/_, _%_, _^_, _<_}
+use Prim.Native.Nat.{ℕ, _+_, _*_, _/_, _%_, _^_, _≤_, _<_}
 use mathlib.Core.Path.{_≡_, refl, ap, subst, _∙_}
 use mathlib.Core.Logic.{_≢_}
 use mathlib.Core.List.{List}
@@ -162,9 +162,9 @@ module _ (m : List ℕ) (fits : length m ≡ size) (t : ℕ) (l : t < 256) where
     away = λ k a b c. getD-set-other m (atFirstOperands + t) k f 0 b;
   }
 
-  pub request-put : (address path : ℕ) (x : Words) → x .code < 256 → address < 256 → path < 2 ^ 20 →
-      Becomes (three m t (x .code + 256 * address + 65536 * path) (x .first) (x .second)) (withRequest (view m) t address path x)
-  request-put address path x a b c = tag-written m _ t _ (x .first) (x .second) l (three-written _ (x .first) (x .second)) (head-new (x .code) address path a b c)
+  pub request-put : (address path : ℕ) (x : Words) → x .code < 256 → address < 256 →
+      Becomes (three m t (x .code + 256 * address + 2 ^ 36 * path) (x .first) (x .second)) (withRequest (view m) t address path x)
+  request-put address path x a b = tag-written m _ t _ (x .first) (x .second) l (three-written _ (x .first) (x .second)) (head-new (x .code) address path a b)
 
   -- ---- what is written as it was
 
@@ -180,8 +180,11 @@ module _ (m : List ℕ) (fits : length m ≡ size) (t : ℕ) (l : t < 256) where
   carried-idle : update (view m .carried) t (record { code = codeOf (headAt m t l); first = getD m (atFirstOperands + t) 0; second = getD m (atSecondOperands + t) 0 }) ≡ view m .carried
   carried-idle = rw (← carried-here m t l) (update-idle (view m .carried) t)
 
-  pub after-set : (n : ℕ) → Becomes (set m (atHeads + t) (headAt m t l % 68719476736 + 68719476736 * n)) (withFixed (view m) (linked (view m .fixed) t n))
-  after-set n = rw (address-idle, path-idle, carried-idle) at (tag-written m _ t _ _ _ l (head-written _) (head-linked (headAt m t l) n))
+  pub after-set : (n h : ℕ) → n ≤ 256 → h ≡ headAt m t l / 2 ^ 36 * 2 ^ 36 + 2 ^ 16 * n + headAt m t l % 2 ^ 16 →
+      Becomes (set m (atHeads + t) h) (withFixed (view m) (linked (view m .fixed) t n))
+  after-set n h a e =
+      let head : Head h (codeOf (headAt m t l)) (addressOf (headAt m t l)) (pathOf (headAt m t l)) n = rw e (head-linked (headAt m t l) n a) in
+      rw (address-idle, path-idle, carried-idle) at (tag-written m _ t h _ _ l (head-written h) head)
 
   pub value-set : (value : ℕ) →
       Becomes (set m (atFirstOperands + t) value) (withCarried (view m) t (record { code = view m .carried t .code; first = value; second = view m .carried t .second }))

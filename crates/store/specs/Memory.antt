@@ -1,9 +1,9 @@
 -- What the array of words holds, by the names of `View`. Bytes of a queue beyond its length say nothing, and nothing is said twice.
-use Prim.Native.Nat.{ℕ, _+_, _*_, _/_, _%_, _^_, _≤_, _<_, min}
+use Prim.Native.Nat.{ℕ, _+_, _*_, _/_, _%_, _^_, _≤_, _<_}
 use mathlib.Core.Path.{_≡_}
 use mathlib.Core.Logic.{_≢_}
 use mathlib.Core.Bool.{Bool, true, false}
-use mathlib.Core.List.{List, []}
+use mathlib.Core.List.{List, [], _∷_}
 use lib.Dec.{eqb, ltb}
 use lib.ListN.{length, getD}
 use Rattle.lists.specs.Choice.{choose, both}
@@ -47,12 +47,18 @@ onGrid f level position = choose (both (ltb level 5) (ltb position 16)) (f level
 abbrev pub queuesAt : ℕ → ℕ → List ℕ → ℕ → ℕ → List ℕ
 queuesAt lengths from m = onGrid (λ level position. tagsIn (gridAt from m level position) (lengthsAt lengths m level position))
 
--- "wait room W 0 to 8": a length is read as at most that
+-- at level 0 the engine's next request alone: there is one where the length is not 0
+abbrev pub nextAt : List ℕ → ℕ → List ℕ
+nextAt m e = choose (eqb (lengthsAt atRequestLengths m 0 e) 0) [] (byteIn (gridAt atRequests m 0 e) 0 ∷ [])
+
+abbrev pub requestsAt : List ℕ → ℕ → ℕ → List ℕ
+requestsAt m = onGrid (λ level position. choose (eqb level 0) (nextAt m position) (tagsIn (gridAt atRequests m level position) (lengthsAt atRequestLengths m level position)))
+
 abbrev pub buffersAt : ℕ → ℕ → ℕ → List ℕ → ℕ → ℕ → List Pair
 buffersAt lengths firsts seconds m =
-    onGrid (λ level position. pairsIn (gridAt firsts m level position) (gridAt seconds m level position) (min 8 (lengthsAt lengths m level position)))
+    onGrid (λ level position. pairsIn (gridAt firsts m level position) (gridAt seconds m level position) (lengthsAt lengths m level position))
 
--- ---- a head: the code in the lowest byte, then the address, twenty bits of path, and the engine's next request
+-- ---- a head: the code in the lowest byte, then the address, the engine's next request in twenty bits, and the path
 abbrev pub codeOf : ℕ → ℕ
 codeOf head = head % 256
 
@@ -60,10 +66,10 @@ abbrev pub addressOf : ℕ → ℕ
 addressOf head = head / 256 % 256
 
 abbrev pub pathOf : ℕ → ℕ
-pathOf head = head / 2 ^ 16 % 2 ^ 20
+pathOf head = head / 2 ^ 36
 
 abbrev pub afterOf : ℕ → ℕ
-afterOf head = head / 2 ^ 36
+afterOf head = head / 2 ^ 16 % 2 ^ 20
 
 -- ---- all of it
 unfoldable pub fixedIn : List ℕ → Fixed
@@ -89,7 +95,7 @@ view m = record {
   fixed = fixedIn m;
   carried = carriedIn m;
   answered = marksAt atAnswered m;
-  requests = queuesAt atRequestLengths atRequests m;
+  requests = requestsAt m;
   replies = queuesAt atReplyLengths atReplies m;
   waits = buffersAt atWaitLengths atFirsts atSeconds m;
   order = orderIn m;

@@ -5,6 +5,7 @@ use super::Machine;
 use super::ORDER;
 use super::ORDERED;
 ghost use mathlib.Core.Path.{_≡_};
+ghost use mathlib.Core.Bool.{false};
 ghost use mathlib.Core.List.{[], _∷_};
 ghost use Prim.Native.Nat.{_<_};
 ghost use lib.ListN.{length, getD};
@@ -19,8 +20,10 @@ pub fn is_answered(m: &Machine, t: usize) -> bool
     words::is_marked(m[ANSWERED + t / 64], t % 64)
 }
 
+// Of a request that is not answered yet.
 pub fn set_answered(m: &mut Machine, t: u8)
     requires { ⌜ length (now m) ≡ size ⌝ }
+    requires { ⌜ view (now m) .answered t ≡ false ⌝ }
     ensures { λ _. ⌜ Becomes (now (m .exit)) (withAnswer (view (now (m .entry))) t) ⌝ }
 {
     let i = t as usize;
@@ -58,7 +61,7 @@ pub fn append_order(m: &mut Machine, t: u8)
 {
     let n = m[ORDERED] as usize;
     let at = ORDER + n / 8;
-    m[at] = words::with_byte(m[at], n % 8, t);
+    m[at] = words::with_highest(m[at], n % 8, t);
     m[ORDERED] = n as u64 + 1;
 }
 

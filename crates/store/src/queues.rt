@@ -12,8 +12,8 @@ use queue::Pairs;
 use queue::Tags;
 ghost use mathlib.Core.Path.{_≡_};
 ghost use mathlib.Core.List.{[], _∷_, _++_};
-ghost use Prim.Native.Nat.{_≤_, _<_, _+_, _*_, min};
-ghost use lib.Dec.{ltb};
+ghost use Prim.Native.Nat.{suc, _≤_, _<_};
+ghost use lib.Dec.{eqb, ltb};
 ghost use lib.ListN.{length, getD, drop};
 ghost use Rattle.lists.specs.Choice.{choose};
 ghost use Rattle.view.specs.View.{withRequests, withReplies, withWaits};
@@ -24,7 +24,7 @@ ghost use Rattle.store.specs.Memory.{view, Becomes, NextFull};
 // ---- how long they are
 
 pub fn request_count(m: &Machine, level: usize, position: usize) -> usize
-    requires { ⌜ (level < 5) × (position < 16) ⌝ }
+    requires { ⌜ (0 < level) × (level < 5) × (position < 16) ⌝ }
     ensures { λ r. ⌜ (r ≡ length (view (now (m .entry)) .requests level position)) × (r < 16) ⌝ }
 {
     words::length_in(m[REQUEST_LENGTHS + level], position)
@@ -39,18 +39,17 @@ pub fn reply_count(m: &Machine, level: usize, position: usize) -> usize
 
 pub fn wait_count(m: &Machine, level: usize, position: usize) -> usize
     requires { ⌜ (level < 5) × (position < 16) ⌝ }
-    ensures { λ r. ⌜ (r ≡ length (view (now (m .entry)) .waits level position)) × (r ≤ 8) ⌝ }
+    ensures { λ r. ⌜ (r ≡ length (view (now (m .entry)) .waits level position)) × (r < 16) ⌝ }
 {
-    at_most_8(words::length_in(m[WAIT_LENGTHS + level], position))
+    words::length_in(m[WAIT_LENGTHS + level], position)
 }
 
-fn at_most_8(n: usize) -> usize
-    ensures { λ r. ⌜ r ≡ min 8 n ⌝ }
+// Whether there is no request, at level 0 none to issue.
+pub fn no_request(m: &Machine, level: usize, position: usize) -> bool
+    requires { ⌜ (level < 5) × (position < 16) ⌝ }
+    ensures { λ r. ⌜ r ≡ eqb (length (view (now (m .entry)) .requests level position)) 0 ⌝ }
 {
-    if n < 8 {
-        return n;
-    }
-    8
+    words::length_in(m[REQUEST_LENGTHS + level], position) == 0
 }
 
 // The first position from `from` on that has a request, or 16.
@@ -71,7 +70,8 @@ pub fn next_reply(m: &Machine, level: usize, from: usize) -> usize
 // ---- by value
 
 pub fn load_requests(m: &Machine, level: usize, position: usize) -> Tags
-    requires { ⌜ (level < 5) × (position < 16) ⌝ }
+    requires { ⌜ (0 < level) × (level < 5) × (position < 16) ⌝ }
+    requires { ⌜ length (view (now m) .requests level position) ≤ 8 ⌝ }
     ensures { λ r. ⌜ (tagsOf r ≡ view (now (m .entry)) .requests level position) × HeldTags r ⌝ }
 {
     Tags {
@@ -82,6 +82,7 @@ pub fn load_requests(m: &Machine, level: usize, position: usize) -> Tags
 
 pub fn load_replies(m: &Machine, level: usize, position: usize) -> Tags
     requires { ⌜ (level < 5) × (position < 16) ⌝ }
+    requires { ⌜ length (view (now m) .replies level position) ≤ 8 ⌝ }
     ensures { λ r. ⌜ (tagsOf r ≡ view (now (m .entry)) .replies level position) × HeldTags r ⌝ }
 {
     Tags {
@@ -92,6 +93,7 @@ pub fn load_replies(m: &Machine, level: usize, position: usize) -> Tags
 
 pub fn load_waits(m: &Machine, level: usize, position: usize) -> Pairs
     requires { ⌜ (level < 5) × (position < 16) ⌝ }
+    requires { ⌜ length (view (now m) .waits level position) ≤ 8 ⌝ }
     ensures { λ r. ⌜ (pairsOf r ≡ view (now (m .entry)) .waits level position) × HeldPairs r ⌝ }
 {
     let at = level * 16 + position;
@@ -102,35 +104,51 @@ pub fn load_waits(m: &Machine, level: usize, position: usize) -> Pairs
     }
 }
 
-pub fn store_requests(m: &mut Machine, level: usize, position: usize, queue: Tags)
+// A queue with one request more than it had: its row of lengths goes up by one.
+pub fn store_longer_requests(m: &mut Machine, level: usize, position: usize, queue: Tags)
     requires { ⌜ length (now m) ≡ size ⌝ }
-    requires { ⌜ (level < 5) × (position < 16) ⌝ }
-    requires { ⌜ HeldTags queue ⌝ }
+    requires { ⌜ (0 < level) × (level < 5) × (position < 16) ⌝ }
+    requires { ⌜ HeldTags queue × (queue .len ≡ suc (length (view (now m) .requests level position))) ⌝ }
     ensures { λ _. ⌜ Becomes (now (m .exit)) (withRequests (view (now (m .entry))) level position (tagsOf queue)) ⌝ }
 {
     m[REQUESTS + (level * 16 + position)] = queue.items;
     let row = REQUEST_LENGTHS + level;
-    m[row] = words::with_length(m[row], position, queue.len);
+    m[row] = words::one_more(m[row], position);
 }
 
-pub fn store_waits(m: &mut Machine, level: usize, position: usize, waits: Pairs)
+// A wait buffer with one record more than it had.
+pub fn store_longer_waits(m: &mut Machine, level: usize, position: usize, waits: Pairs)
     requires { ⌜ length (now m) ≡ size ⌝ }
     requires { ⌜ (level < 5) × (position < 16) ⌝ }
-    requires { ⌜ HeldPairs waits ⌝ }
+    requires { ⌜ (waits .len ≤ 8) × (waits .len ≡ suc (length (view (now m) .waits level position))) ⌝ }
     ensures { λ _. ⌜ Becomes (now (m .exit)) (withWaits (view (now (m .entry))) level position (pairsOf waits)) ⌝ }
 {
     let at = level * 16 + position;
     m[FIRSTS + at] = waits.firsts;
     m[SECONDS + at] = waits.seconds;
     let row = WAIT_LENGTHS + level;
-    m[row] = words::with_length(m[row], position, waits.len);
+    m[row] = words::one_more(m[row], position);
+}
+
+// A wait buffer with one record less.
+pub fn store_shorter_waits(m: &mut Machine, level: usize, position: usize, waits: Pairs)
+    requires { ⌜ length (now m) ≡ size ⌝ }
+    requires { ⌜ (level < 5) × (position < 16) ⌝ }
+    requires { ⌜ (waits .len ≤ 8) × (suc (waits .len) ≡ length (view (now m) .waits level position)) ⌝ }
+    ensures { λ _. ⌜ Becomes (now (m .exit)) (withWaits (view (now (m .entry))) level position (pairsOf waits)) ⌝ }
+{
+    let at = level * 16 + position;
+    m[FIRSTS + at] = waits.firsts;
+    m[SECONDS + at] = waits.seconds;
+    let row = WAIT_LENGTHS + level;
+    m[row] = words::one_less(m[row], position);
 }
 
 // ---- the oldest, and one more at the end
 
 pub fn oldest_request(m: &Machine, level: usize, position: usize) -> u8
-    requires { ⌜ (level < 5) × (position < 16) ⌝ }
-    requires { ⌜ 0 < length (view (now m) .requests level position) ⌝ }
+    requires { ⌜ (0 < level) × (level < 5) × (position < 16) ⌝ }
+    requires { ⌜ (0 < length (view (now m) .requests level position)) × (length (view (now m) .requests level position) ≤ 8) ⌝ }
     ensures { λ r. ⌜ r ≡ getD (view (now (m .entry)) .requests level position) 0 0 ⌝ }
 {
     load_requests(m, level, position).oldest()
@@ -138,7 +156,7 @@ pub fn oldest_request(m: &Machine, level: usize, position: usize) -> u8
 
 pub fn oldest_reply(m: &Machine, level: usize, position: usize) -> u8
     requires { ⌜ (level < 5) × (position < 16) ⌝ }
-    requires { ⌜ 0 < length (view (now m) .replies level position) ⌝ }
+    requires { ⌜ (0 < length (view (now m) .replies level position)) × (length (view (now m) .replies level position) ≤ 8) ⌝ }
     ensures { λ r. ⌜ r ≡ getD (view (now (m .entry)) .replies level position) 0 0 ⌝ }
 {
     load_replies(m, level, position).oldest()
@@ -147,7 +165,7 @@ pub fn oldest_reply(m: &Machine, level: usize, position: usize) -> u8
 // The oldest goes with the length alone.
 pub fn pop_request(m: &mut Machine, level: usize, position: usize)
     requires { ⌜ length (now m) ≡ size ⌝ }
-    requires { ⌜ (level < 5) × (position < 16) ⌝ }
+    requires { ⌜ (0 < level) × (level < 5) × (position < 16) ⌝ }
     requires { ⌜ 0 < length (view (now m) .requests level position) ⌝ }
     ensures { λ _. ⌜ Becomes (now (m .exit)) (withRequests (view (now (m .entry))) level position (drop 1 (view (now (m .entry)) .requests level position))) ⌝ }
 {
@@ -177,6 +195,17 @@ pub fn push_reply(m: &mut Machine, level: usize, position: usize, t: u8)
     m[row] = words::one_more(m[row], position);
 }
 
+// ---- level 0
+
+// The next request of engine e, which has one.
+pub fn next_of(m: &Machine, e: usize) -> u8
+    requires { ⌜ e < 16 ⌝ }
+    requires { ⌜ 0 < length (view (now m) .requests 0 e) ⌝ }
+    ensures { λ r. ⌜ r ≡ getD (view (now (m .entry)) .requests 0 e) 0 0 ⌝ }
+{
+    words::byte_at(m[REQUESTS + e], 0)
+}
+
 // The next request of engine e: n where there is such a request, else none.
 pub fn set_next(m: &mut Machine, e: usize, n: usize)
     requires { ⌜ length (now m) ≡ size ⌝ }
@@ -187,7 +216,9 @@ pub fn set_next(m: &mut Machine, e: usize, n: usize)
     let row = m[REQUEST_LENGTHS];
     if n < m[COUNT] as usize {
         m[REQUESTS + e] = n as u64;
-        m[REQUEST_LENGTHS] = words::with_length(row, e, 1);
+        if words::length_in(row, e) == 0 {
+            m[REQUEST_LENGTHS] = words::one_more(row, e);
+        }
         return;
     }
     m[REQUEST_LENGTHS] = words::with_length(row, e, 0);

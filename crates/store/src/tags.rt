@@ -6,7 +6,7 @@ use super::SECOND_OPERANDS;
 use operation::Operation;
 use operation::Words;
 ghost use mathlib.Core.Path.{_≡_};
-ghost use Prim.Native.Nat.{_+_, _*_, _/_, _^_, _≤_, _<_};
+ghost use Prim.Native.Nat.{_+_, _*_, _/_, _%_, _^_, _≤_, _<_};
 ghost use lib.ListN.{length};
 ghost use Rattle.operation.specs.Operation.{operationOf, wordsOf};
 ghost use Rattle.wiring.specs.Wiring.{positionOn};
@@ -14,12 +14,12 @@ ghost use Rattle.view.specs.View.{withFixed, withCarried, withRequest, linked};
 ghost use Rattle.store.specs.Layout.{size};
 ghost use Rattle.store.specs.Memory.{view, Becomes};
 
-// A head: the operation's code, the address, twenty bits of path, and the engine's next request.
+// A head: the operation's code, the address, the engine's next request in twenty bits, and the path.
 const ADDRESS: u64 = 256;
 
-const PATH: u64 = 65536;
+const AFTER: u64 = 65536;
 
-const AFTER: u64 = 68719476736;
+const PATH: u64 = 68719476736;
 
 pub fn put_request(m: &mut Machine, t: usize, address: u8, path: u64, asked: Words)
     requires { ⌜ length (now m) ≡ size ⌝ }
@@ -38,13 +38,21 @@ pub fn set_after(m: &mut Machine, t: usize, n: usize)
     ensures { λ _. ⌜ Becomes (now (m .exit)) (withFixed (view (now (m .entry))) (linked (view (now (m .entry)) .fixed) t n)) ⌝ }
 {
     let at = HEADS + t;
-    m[at] = m[at] % AFTER + AFTER * (n as u64);
+    m[at] = with_after(m[at], n as u64);
+}
+
+// A head with another next request.
+fn with_after(head: u64, n: u64) -> u64
+    requires { ⌜ n ≤ 256 ⌝ }
+    ensures { λ r. ⌜ r ≡ head / 2 ^ 36 * 2 ^ 36 + 2 ^ 16 * n + head % 2 ^ 16 ⌝ }
+{
+    head / PATH * PATH + AFTER * n + head % AFTER
 }
 
 pub fn after_of(m: &Machine, t: u8) -> usize
     ensures { λ r. ⌜ r ≡ view (now (m .entry)) .fixed .after t ⌝ }
 {
-    (m[HEADS + t as usize] / AFTER) as usize
+    (m[HEADS + t as usize] / AFTER % 1048576) as usize
 }
 
 pub fn address_of(m: &Machine, t: u8) -> u8
@@ -58,7 +66,7 @@ pub fn position_of(m: &Machine, t: u8, level: usize) -> usize
     requires { ⌜ level < 5 ⌝ }
     ensures { λ r. ⌜ (r ≡ positionOn (view (now (m .entry)) .fixed .path t) level) × (r < 16) ⌝ }
 {
-    let path = m[HEADS + t as usize] / PATH % 1048576;
+    let path = m[HEADS + t as usize] / PATH;
     wiring::position_on(path, level)
 }
 

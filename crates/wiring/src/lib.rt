@@ -42,12 +42,14 @@ pub fn path_of(k: usize, engine: u64, address: u64) -> u64
     requires { ⌜ (k ≤ 4) × (engine < 2 ^ k) ⌝ }
     ensures { λ r. ⌜ PathOf k engine (moduleOf k address) r ⌝ }
 {
-    let to = module_of(k, address);
+    // the bits of the engine, then those of the module: the position at level s is what k bits of them show, k - s from the lowest on
+    let mut route = (engine << k) + module_of(k, address);
     let mut path = 0;
     let mut left = k + 1;
     while 0 < left {
         left -= 1;
-        path = path * 16 + position(k, engine, to, left) as u64;
+        path = path * 16 + module_of(k, route);
+        route = route / 2;
     }
     path
 }

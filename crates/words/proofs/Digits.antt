@@ -2,12 +2,12 @@
 use Prim.Native.Nat.{ℕ, zero, suc, _+_, _*_, _/_, _%_, _^_, _≤_, _<_}
 use mathlib.Core.Path.{_≡_, refl, sym, ap, ap₂, _∙_, fun-ext}
 use mathlib.Core.Logic.{_≢_}
-use native.Mathlib.Nat.{add-zero, add-assoc, add-mul, suc-mul, zero-mul, mul-one, mul-comm, mul-assoc, mul-le-mul-right, le-trans, lt-of-lt-of-le}
-use native.Mathlib.Nat.{zero-div, div-one, div-div-eq-div-mul, div-eq-of-lt, div-mul-le-self, div-lt-iff-lt-mul, div-add-mod', add-mul-div-right, add-mul-mod-self-right}
+use native.Mathlib.Nat.{add-zero, add-assoc, add-mul, suc-mul, zero-mul, mul-one, mul-comm, mul-assoc, mul-le-mul-right, le-trans}
+use native.Mathlib.Nat.{zero-div, div-one, div-div-eq-div-mul, div-mul-le-self, div-lt-iff-lt-mul, div-add-mod', add-mul-div-right, add-mul-mod-self-right}
 use native.Mathlib.Nat.{zero-mod, mod-one, mod-le, mod-lt, mod-eq-of-lt}
 use native.Mathlib.Omega.{arith}
 use lib.Arith.{digits-div, digits-mod, mod-mul}
-use lib.Pow.{pow-add, pow-pos, pow-mono}
+use lib.Pow.{pow-add, pow-pos, shr-shr}
 use Rattle.lists.specs.Table.{update}
 use Rattle.lists.proofs.Tables.{update-ind}
 use Rattle.words.specs.Digits.{digit}
@@ -44,21 +44,14 @@ module _ (bits : ℕ) where
   unfolding digit
   digit-le w p = le-trans (mul-le-mul-right (place bits p) (mod-le (w / place bits p) base)) (div-mul-le-self w (place bits p))
 
-  -- nothing stands in a word of zeros, and none beyond a word's places
+  -- nothing stands in a word of zeros
   pub digit-none : (p : ℕ) → digit bits 0 p ≡ 0
   unfolding digit
   digit-none p = rw (zero-div, zero-mod)
 
-  pub digit-beyond : (n w p : ℕ) → w < place bits n → n ≤ p → digit bits w p ≡ 0
-  unfolding digit
-  digit-beyond n w p f h = rw (div-eq-of-lt (lt-of-lt-of-le f (pow-mono (mul-le-mul-right bits h))), zero-mod)
-
-  -- a small number is its own lowest digit, and has no other
+  -- a small number is its own lowest digit
   pub digit-low : (d : ℕ) → d < base → digit bits d 0 ≡ d
   digit-low d l = digit-zero d ∙ mod-eq-of-lt l
-
-  pub digit-high : (d p : ℕ) → d < base → digit bits d (suc p) ≡ 0
-  digit-high d p l = digit-suc d p ∙ rw (div-eq-of-lt l) (digit-none p)
 
   -- without its lowest digit a word has a place less
   rest-fits : (k w : ℕ) → w < place bits (suc k) → w / base < place bits k
@@ -126,7 +119,7 @@ module _ (bits : ℕ) where
   replaced-fits (suc k) w (suc p) n r a l f h =
       fits-rest k r (replaced-fits k (w / base) p n (r / base) (omega arith) l (rest-fits k w f) (down w p n r h .0))
 
-  -- ---- those below a place, those from a place on, and all but that at a place
+  -- ---- those below a place, with one there and without, those from a place on, and all but that at a place
 
   below-suc : (w k : ℕ) → w % place bits (suc k) ≡ w / base % place bits k * base + w % base
   below-suc w k = rw (place-suc bits k) (mod-mul w {m = place bits k} {c = base} (pow-pos (k * bits)) (pow-pos bits))
@@ -137,22 +130,22 @@ module _ (bits : ℕ) where
   below-low w (suc k) (suc p) l =
       rw below-suc (digit-moved (w / base % place bits k) (w % base) p (mod-lt w (pow-pos bits)) ∙ below-low (w / base) k p (omega arith) ∙ sym (digit-suc w p))
 
-  abbrev pub from : ℕ → ℕ → ℕ
-  from w k = w / place bits k * place bits k
+  -- w below a place, and d there
+  abbrev pub topped : ℕ → ℕ → ℕ → ℕ
+  topped w k d = d * place bits k + w % place bits k
 
-  from-suc : (w k : ℕ) → from w (suc k) ≡ from (w / base) k * base + 0
-  from-suc w k = rw (place-suc bits k, ← mul-assoc, mul-comm (place bits k) base, div-div-eq-div-mul, add-zero)
+  pub topped-low : (w k d p : ℕ) → p < k → digit bits (topped w k d) p ≡ digit bits w p
+  topped-low w k d p l =
+      sym (below-low (topped w k d) k p l) ∙ ap (λ (v : ℕ). digit bits v p) (digits-mod d (mod-lt w (pow-pos (k * bits)))) ∙ below-low w k p l
 
-  pub from-low : (w k p : ℕ) → p < k → digit bits (from w k) p ≡ 0
-  from-low w zero p l = absurd (omega arith)
-  from-low w (suc k) zero l = rw from-suc (digit-pushed (from (w / base) k) 0 (pow-pos bits))
-  from-low w (suc k) (suc p) l = rw from-suc (digit-moved (from (w / base) k) 0 p (pow-pos bits) ∙ from-low (w / base) k p (omega arith))
+  pub topped-high : (w k d : ℕ) → d < base → digit bits (topped w k d) k ≡ d
+  unfolding digit
+  topped-high w k d l = rw (digits-div d (mod-lt w (pow-pos (k * bits)))) (mod-eq-of-lt l)
 
-  pub from-high : (w k p : ℕ) → k ≤ p → digit bits (from w k) p ≡ digit bits w p
-  from-high w zero p l = rw (zero-mul, div-one, mul-one)
-  from-high w (suc k) zero l = absurd (omega arith)
-  from-high w (suc k) (suc p) l =
-      rw from-suc (digit-moved (from (w / base) k) 0 p (pow-pos bits) ∙ from-high (w / base) k p (omega arith) ∙ sym (digit-suc w p))
+  -- a word without its k lowest digits
+  pub digit-from : (w k p : ℕ) → digit bits (w / place bits k) p ≡ digit bits w (k + p)
+  unfolding digit
+  digit-from w k p = rw (shr-shr, add-mul)
 
   abbrev pub without : ℕ → ℕ → ℕ
   without w k = w / place bits k / base * place bits k + w % place bits k

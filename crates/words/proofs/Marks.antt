@@ -9,27 +9,25 @@ use Rattle.lists.specs.Table.{update}
 use Rattle.lists.proofs.Tests.{ltb-cases}
 use Rattle.words.specs.Digits.{digit, bitIn, LowBits}
 use Rattle.words.proofs.Digits.{place, digit-zero, digit-suc, digit-none}
-use Rattle.words.proofs.Written.{one-shifted, taken, written-fits, written-digits}
+use Rattle.words.proofs.Written.{one-shifted, more-fits, more-digits}
 
 pub bit-is : (w i : ℕ) → w / 2 ^ i % 2 ≡ bitIn w i
 unfolding digit
 bit-is w i = rw mul-one
 
-module _ (w i : ℕ) (a : i < 64) (f : w < 2 ^ 64) where
+-- one more where there is none
+module _ (w i : ℕ) (a : i < 64) (f : w < 2 ^ 64) (z : bitIn w i ≡ 0) where
   abbrev marked : ℕ
-  marked = w - (w / 2 ^ i % 2 * 2 ^ i) % 2 ^ 64 + (1 * 2 ^ i) % 2 ^ 64
+  marked = w + (1 * 2 ^ i) % 2 ^ 64
 
   at-bit : place 1 i ≡ 2 ^ i
   at-bit = rw mul-one
 
-  pub mark-taken : (w / 2 ^ i % 2 * 2 ^ i) % 2 ^ 64 ≤ w
-  mark-taken = rw (bit-is w i) (rw at-bit at (taken 1 64 w i refl a f))
-
   pub marked-fits : marked < 2 ^ 64
-  marked-fits = rw (bit-is w i) (rw at-bit at (written-fits 1 64 w i refl a f 1 (omega arith)))
+  marked-fits = rw at-bit at (more-fits 1 64 w i refl a f (omega arith))
 
   pub marked-bits : bitIn marked ≡ update (bitIn w) i 1
-  marked-bits = rw (bit-is w i) (rw at-bit at (written-digits 1 64 w i refl a f 1 (omega arith)))
+  marked-bits = rw (at-bit, z) at (more-digits 1 64 w i refl a f (omega arith))
 
 -- ---- all of the n lowest
 

@@ -1,12 +1,13 @@
 -- Digits as the code writes them: w is a word of 64 bits, p one of its k places.
 use Prim.Native.Nat.{ℕ, suc, _+_, _-_, _*_, _/_, _%_, _^_, _≤_, _<_}
 use mathlib.Core.Path.{_≡_, sym, ap, _∙_}
-use native.Mathlib.Nat.{suc-mul, mul-comm, mul-le-mul-right, le-trans, le-of-eq, mod-le, mod-lt, mod-eq-of-lt, div-mul-le-self, div-div-eq-div-mul}
+use native.Mathlib.Nat.{add-comm, suc-mul, mul-comm, mul-le-mul-right, le-trans, le-of-eq, mod-le, mod-lt, mod-eq-of-lt, div-mul-le-self, div-div-eq-div-mul}
 use native.Mathlib.Omega.{arith}
-use lib.Pow.{pow-pos, pow-mono, shl-exact, shr-shr}
+use lib.Pow.{pow-pos, pow-mono, shl-exact}
 use Rattle.lists.specs.Table.{update}
-use Rattle.words.specs.Digits.{digit, byteIn, Pushed, Without}
-use Rattle.words.proofs.Digits.{place, Replaced, replaced, replaced-fits, digit-lt, digit-le, digit-pushed, digit-moved, below-low, without, without-low, without-high}
+use Rattle.words.specs.Digits.{digit, Pushed, Topped, Without}
+use Rattle.words.proofs.Digits.{place, Replaced, replaced, replaced-fits, digit-lt, digit-le, digit-pushed, digit-moved}
+use Rattle.words.proofs.Digits.{below-low, topped, topped-low, topped-high, without, without-low, without-high}
 
 pub one-shifted : (n : ℕ) → n < 64 → (1 * 2 ^ n) % 2 ^ 64 ≡ 2 ^ n
 one-shifted n l = rw (shl-exact {a = 1} 1 n 64 (omega arith) (omega arith)) (omega arith)
@@ -67,34 +68,45 @@ module _ (bits k w p : ℕ) (e : k * bits ≡ 64) (a : p < k) (f : w < 2 ^ 64) w
 
 -- ---- bytes
 
--- by two shifts, each of half as many bits
-pub byte-by-halves : (w i : ℕ) → w / 2 ^ (i * 4) / 2 ^ (i * 4) % 256 ≡ byteIn w i
-unfolding digit
-byte-by-halves w i = let s : i * 4 + i * 4 ≡ i * 8 = omega arith in rw (shr-shr, s)
-
 pub pushed : (w b : ℕ) → b < 256 → Pushed w b ((w * 2 ^ 8) % 2 ^ 64 + b)
 pushed w b l =
     let e : (w * 2 ^ 8) % 2 ^ 64 ≡ w % 2 ^ 56 * 2 ^ 8 = omega arith in
     rw e record { lowest = digit-pushed 8 (w % 2 ^ 56) b l; above = λ i g. digit-moved 8 (w % 2 ^ 56) b i l ∙ below-low 8 w 7 i g }
 
-module _ (w i : ℕ) (a : i < 8) (f : w < 2 ^ 64) where
-  abbrev removed : ℕ
-  removed = (w / place 8 i / 256 * place 8 i) % 2 ^ 64 + w % ((1 * place 8 i) % 2 ^ 64)
-
+module _ (w i : ℕ) (a : i < 8) where
   shift : (1 * place 8 i) % 2 ^ 64 ≡ place 8 i
   shift = one-shifted (i * 8) (omega arith)
 
-  high-le : w / place 8 i / 256 * place 8 i ≤ w / 256
-  high-le =
-      le-trans (le-of-eq (ap (λ (x : ℕ). x * place 8 i) (div-div-eq-div-mul w (place 8 i) 256 ∙ ap (λ (x : ℕ). w / x) (mul-comm (place 8 i) 256) ∙ sym (div-div-eq-div-mul w 256 (place 8 i)))))
-      (div-mul-le-self (w / 256) (place 8 i))
+  module _ (b : ℕ) (l : b < 256) where
+    abbrev highest : ℕ
+    highest = w % ((1 * place 8 i) % 2 ^ 64) + (b * place 8 i) % 2 ^ 64
 
-  removed-is : removed ≡ without 8 w i
-  removed-is = rw (shift, mod-eq-of-lt {n = w / place 8 i / 256 * place 8 i} {m = 2 ^ 64} (omega (arith, high-le)))
+    highest-is : highest ≡ topped 8 w i b
+    highest-is = rw (shift, shl-exact {a = b} 8 (i * 8) 64 l (omega arith)) (add-comm (w % place 8 i) (b * place 8 i))
 
-  pub removed-fits : removed < 2 ^ 64
-  removed-fits =
-      rw shift (omega (arith, high-le, mod-le (w / place 8 i / 256 * place 8 i) (2 ^ 64), mod-lt w (pow-pos (i * 8)), pow-mono {i = i * 8} {j = 56} (omega arith)))
+    pub highest-fits : highest < 2 ^ 64
+    highest-fits =
+        let m : b * place 8 i ≤ 255 * place 8 i = mul-le-mul-right (place 8 i) (omega arith) in
+        rw highest-is (omega (arith, mod-lt w (pow-pos (i * 8)), pow-mono {i = i * 8} {j = 56} (omega arith)))
 
-  pub removed-without : Without w i removed
-  removed-without = rw removed-is record { below = without-low 8 w i; above = without-high 8 w i }
+    pub highest-topped : Topped w i b highest
+    highest-topped = rw highest-is record { below = topped-low 8 w i b; highest = topped-high 8 w i b l }
+
+  module _ (f : w < 2 ^ 64) where
+    abbrev removed : ℕ
+    removed = (w / place 8 i / 256 * place 8 i) % 2 ^ 64 + w % ((1 * place 8 i) % 2 ^ 64)
+
+    high-le : w / place 8 i / 256 * place 8 i ≤ w / 256
+    high-le =
+        le-trans (le-of-eq (ap (λ (x : ℕ). x * place 8 i) (div-div-eq-div-mul w (place 8 i) 256 ∙ ap (λ (x : ℕ). w / x) (mul-comm (place 8 i) 256) ∙ sym (div-div-eq-div-mul w 256 (place 8 i)))))
+        (div-mul-le-self (w / 256) (place 8 i))
+
+    removed-is : removed ≡ without 8 w i
+    removed-is = rw (shift, mod-eq-of-lt {n = w / place 8 i / 256 * place 8 i} {m = 2 ^ 64} (omega (arith, high-le)))
+
+    pub removed-fits : removed < 2 ^ 64
+    removed-fits =
+        rw shift (omega (arith, high-le, mod-le (w / place 8 i / 256 * place 8 i) (2 ^ 64), mod-lt w (pow-pos (i * 8)), pow-mono {i = i * 8} {j = 56} (omega arith)))
+
+    pub removed-without : Without w i removed
+    removed-without = rw removed-is record { below = without-low 8 w i; above = without-high 8 w i }

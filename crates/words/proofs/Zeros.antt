@@ -1,18 +1,18 @@
 -- The first place of a word whose digit is not 0, by the zeros below the lowest set bit.
-use Prim.Native.Nat.{ℕ, zero, suc, _+_, _*_, _/_, _%_, _^_, _≤_, _<_}
-use mathlib.Core.Path.{_≡_, refl, ap, _∙_}
+use Prim.Native.Nat.{ℕ, zero, suc, _+_, _-_, _*_, _/_, _%_, _^_, _≤_, _<_}
+use mathlib.Core.Path.{_≡_, refl, sym, ap, _∙_}
 use mathlib.Core.Logic.{_≢_}
-use native.Mathlib.Nat.{zero-add, suc-add, add-comm, zero-mul, suc-mul, mul-one, zero-div, mod-one, mod-eq-of-lt, pow-suc, div-add-mod', add-div-left, div-eq-of-lt, div-mul-le-self}
+use native.Mathlib.Nat.{zero-add, suc-add, add-comm, zero-mul, suc-mul, mul-one, zero-div, mod-one, pow-suc, div-add-mod', add-div-left, div-eq-of-lt}
 use native.Mathlib.Numerals.{add-one}
 use native.Mathlib.Decide.{ℕ-discrete, decLe}
 use native.Mathlib.Omega.{arith}
 use lib.Arith.{mod-mul}
 use lib.Bits.{shifted-half, shifted-even}
 use lib.Count.{trailingZeros, under}
-use lib.Pow.{pow-pos}
+use lib.Pow.{pow-pos, shr-lt}
 use Rattle.lists.proofs.Tests.{by-cases}
 use Rattle.words.specs.Digits.{digit, NextBusy}
-use Rattle.words.proofs.Digits.{place, from, from-low, from-high, digit-zero, digit-suc}
+use Rattle.words.proofs.Digits.{place, digit-from, digit-none, digit-zero, digit-suc, digits-same}
 
 shifted : (n k z : ℕ) → trailingZeros (n + k) (z * 2 ^ n) ≡ n + trailingZeros k z
 unfolding trailingZeros
@@ -74,18 +74,36 @@ module _ (bits : ℕ) (b : 0 < bits) where
 
 -- ---- the lengths from a place on
 
-pub next-busy : (w start : ℕ) → start < 16 → w < 2 ^ 64 → NextBusy w start (trailingZeros 64 (from 4 w start % 2 ^ 64) / 4)
-next-busy w start a f =
-    let m : from 4 w start % 2 ^ 64 ≡ from 4 w start = mod-eq-of-lt (omega (arith, div-mul-le-self w (place 4 start))) in
-    rw m (go (trailingZeros 64 (from 4 w start) / 4) (first 4 (omega arith) 16 (from 4 w start)))
-  where
-    go : (r : ℕ) → First 4 16 (from 4 w start) r → NextBusy w start r
-    go r i =
-        let above : start ≤ r =
-        by-cases (decLe start r) (λ (h : start ≤ r). h) (λ (h : ¬ (start ≤ r)). absurd (i .busy (omega (arith, i .below)) (from-low 4 w start r (omega arith)))) in
-        record {
-          above = above;
-          below = i .below;
-          idle = λ p g l. (rw (from-high 4 w start p g) at (i .idle p l));
-          busy = λ l. (rw (from-high 4 w start r above) at (i .busy l));
-        }
+module _ (w start : ℕ) (a : start < 16) where
+  abbrev left : ℕ
+  left = w / place 4 start
+
+  left-digit : (p : ℕ) → start ≤ p → digit 4 left (p - start) ≡ digit 4 w p
+  left-digit p g = digit-from 4 w start (p - start) ∙ ap (digit 4 w) (omega arith)
+
+  pub none-busy : left ≡ 0 → NextBusy w start 16
+  none-busy z = record {
+    above = omega arith;
+    below = omega arith;
+    idle = λ p g l. sym (left-digit p g) ∙ ap (λ (v : ℕ). digit 4 v (p - start)) z ∙ digit-none 4 (p - start);
+    busy = λ l. absurd (omega arith);
+  }
+
+  -- what is left has a digit that is not 0 among the places that are left
+  pub next-busy : w < 2 ^ 64 → left ≢ 0 → NextBusy w start (start + trailingZeros 64 left / 4)
+  next-busy f n = go (trailingZeros 64 left / 4) (first 4 (omega arith) 16 left)
+    where
+      go : (r : ℕ) → First 4 16 left r → NextBusy w start (start + r)
+      go r i =
+          let e : (16 - start) * 4 + start * 4 ≡ 64 = omega arith in
+          let small : left < place 4 (16 - start) = shr-lt ((16 - start) * 4) (start * 4) (rw e f) in
+          let inside : start + r < 16 =
+          by-cases (decLe (16 - start) r)
+          (λ (h : 16 - start ≤ r). absurd (n (digits-same 4 (16 - start) left 0 small (pow-pos ((16 - start) * 4)) (λ p l. i .idle p (omega arith) ∙ sym (digit-none 4 p)))))
+          (λ (h : ¬ (16 - start ≤ r)). omega arith) in
+          record {
+            above = omega arith;
+            below = omega arith;
+            idle = λ p g l. sym (left-digit p g) ∙ i .idle (p - start) (omega arith);
+            busy = λ l. (rw (digit-from 4 w start r) at (i .busy (omega arith)));
+          }

@@ -39,6 +39,11 @@ pub record Pushed (w b r : ℕ) : Type 0 where
   pub lowest : byteIn r 0 ≡ b
   pub above : (i : ℕ) → i < 7 → byteIn r (suc i) ≡ byteIn w i
 
+-- r has the bytes of w below a place, and b there
+pub record Topped (w at b r : ℕ) : Type 0 where
+  pub below : (i : ℕ) → i < at → byteIn r i ≡ byteIn w i
+  pub highest : byteIn r at ≡ b
+
 -- r is w without the byte at a place: those above it move down
 pub record Without (w at r : ℕ) : Type 0 where
   pub below : (i : ℕ) → i < at → byteIn r i ≡ byteIn w i

@@ -3,7 +3,7 @@ ghost use mathlib.Core.Path.{_≡_};
 ghost use Prim.Native.Nat.{suc, _-_, _≤_, _<_};
 ghost use lib.Dec.{eqb};
 ghost use Rattle.lists.specs.Table.{update};
-ghost use Rattle.words.specs.Digits.{lengthIn, byteIn, bitIn, NextBusy, PlaceOf, Pushed, Without, LowBits};
+ghost use Rattle.words.specs.Digits.{lengthIn, byteIn, bitIn, NextBusy, PlaceOf, Pushed, Topped, Without, LowBits};
 
 // ---- sixteen lengths
 
@@ -41,27 +41,29 @@ pub fn next_busy(row: u64, from: usize) -> usize
     requires { ⌜ from < 16 ⌝ }
     ensures { λ r. ⌜ NextBusy row from r ⌝ }
 {
-    let s = from * 4;
-    (u64::trailing_zeros((row >> s) << s) / 4) as usize
+    let left = row >> (from * 4);
+    if left == 0 {
+        return 16;
+    }
+    from + (u64::trailing_zeros(left) / 4) as usize
 }
 
 // ---- eight bytes
 
-// Two shifts, each by less than a word, for a place that need not be one of the eight.
 pub fn byte_at(w: u64, i: usize) -> u8
-    requires { ⌜ i < 16 ⌝ }
+    requires { ⌜ i < 8 ⌝ }
     ensures { λ r. ⌜ r ≡ byteIn w i ⌝ }
 {
-    let half = i * 4;
-    (((w >> half) >> half) % 256) as u8
+    ((w >> (i * 8)) % 256) as u8
 }
 
-pub fn with_byte(w: u64, i: usize, b: u8) -> u64
+// The bytes below a place, and a byte there: what stood above it goes.
+pub fn with_highest(w: u64, i: usize, b: u8) -> u64
     requires { ⌜ i < 8 ⌝ }
-    ensures { λ r. ⌜ byteIn r ≡ update (byteIn w) i b ⌝ }
+    ensures { λ r. ⌜ Topped w i b r ⌝ }
 {
     let s = i * 8;
-    w - (((w >> s) % 256) << s) + ((b as u64) << s)
+    w % (1u64 << s) + ((b as u64) << s)
 }
 
 // One byte more, below all others.
@@ -103,11 +105,12 @@ pub fn is_marked(w: u64, i: usize) -> bool
     (w >> i) % 2 == 1
 }
 
+// A mark at a place that has none.
 pub fn with_mark(w: u64, i: usize) -> u64
-    requires { ⌜ i < 64 ⌝ }
+    requires { ⌜ (i < 64) × (bitIn w i ≡ 0) ⌝ }
     ensures { λ r. ⌜ bitIn r ≡ update (bitIn w) i 1 ⌝ }
 {
-    w - (((w >> i) % 2) << i) + (1u64 << i)
+    w + (1u64 << i)
 }
 
 // Marks at the lowest n places.

@@ -1,7 +1,7 @@
 -- `module_step` meets its contract: nothing where the reply queue is full, and the oldest message taken otherwise.
 use native.Mathlib.Omega.{arith}
-use Rattle.replies.proofs.Shape.{shape-small}
-use Rattle.replies.proofs.Served.{request-there, order-fits, access-room, reply-room, request-stays, served-full, served}
+use Rattle.replies.proofs.Shape.{requests-fit, waits-fit}
+use Rattle.replies.proofs.Served.{level-fits, request-there, order-fits, access-room, reply-room, request-stays, served-full, served}
 use borrow.Author.Needs.{needs}
 use Rattle.replies.proofs.module_step.Statement.{statement}
 use Rattle.replies.proofs.module_step.Tie as tie
@@ -16,7 +16,7 @@ reply-count-requires : tie.Need-reply-count-requires
 reply-count-requires c κs =
     let k = c .before .before .before in
     let s = k .before .before in
-    (omega (arith, shape-small (s .pre .0 .stands), k .levels .ensures), s .pre .1 .0)
+    (level-fits (s .pre .0) _ (k .levels .ensures) .1, s .pre .1 .0)
 
 returns : tie.Need-returns
 returns c =
@@ -30,7 +30,8 @@ oldest-request-requires : tie.Need-oldest-request-requires
 oldest-request-requires c κs =
     let k = c .before .before .before .before .before .before in
     let s = k .before .before in
-    ((omega (arith, shape-small (s .pre .0 .stands), k .levels .ensures), s .pre .1 .0), request-there (s .pre .0) _ (k .levels .ensures) _ (s .pre .1 .1))
+    let level = level-fits (s .pre .0) _ (k .levels .ensures) in
+    ((level .0, level .1, s .pre .1 .0), (request-there (s .pre .0) _ (k .levels .ensures) _ (s .pre .1 .1), requests-fit (s .pre .0 .stands) _ _ (level .0)))
 
 expand-requires : tie.Need-expand-requires
 expand-requires c κs =
@@ -38,7 +39,7 @@ expand-requires c κs =
     let k = oldest .before .before .before .before .before .before .before in
     let s = k .before .before in
     let fits = order-fits (s .pre .0) _ (k .levels .ensures) _ (s .pre .1 .1) _ (oldest .oldest-request .ensures) in
-    (s .pre .0 .sized, (omega (arith, shape-small (s .pre .0 .stands), k .levels .ensures), fits))
+    (s .pre .0 .sized, (level-fits (s .pre .0) _ (k .levels .ensures) .1, (waits-fit (s .pre .0 .stands), fits)))
 
 add-access-requires : tie.Need-add-access-requires
 add-access-requires c κs =
@@ -76,7 +77,7 @@ push-reply-requires c κs =
     let v = set .set-value .ensures in
     let fits = reply-room (s .pre .0) _ k _ (s .pre .1 .1) _ (oldest .oldest-request .ensures) (expanded .expand .ensures) _ (counted .add-access .ensures) (x .0) (x .1) v
     (omega (arith, room .queue-room .ensures, count .reply-count .ensures, test .if1 .left)) in
-    (v .sized, ((omega (arith, shape-small (s .pre .0 .stands), k), s .pre .1 .0), fits))
+    (v .sized, ((level-fits (s .pre .0) _ k .1, s .pre .1 .0), fits))
 
 pop-request-requires : tie.Need-pop-request-requires
 pop-request-requires c κs =
@@ -93,7 +94,8 @@ pop-request-requires c κs =
     let r = pushed .push-reply .ensures in
     let stays = request-stays (s .pre .0) _ k _ (s .pre .1 .1) _ (oldest .oldest-request .ensures) (expanded .expand .ensures) _ (counted .add-access .ensures) (x .0) (x .1)
     (set .set-value .ensures) r in
-    (r .sized, ((omega (arith, shape-small (s .pre .0 .stands), k), s .pre .1 .0), stays))
+    let level = level-fits (s .pre .0) _ k in
+    (r .sized, ((level .0, level .1, s .pre .1 .0), stays))
 
 returns-2 : tie.Need-returns-2
 returns-2 c =

@@ -1,7 +1,6 @@
 -- `return_step` meets its contract: by the oldest reply, and the oldest of its records.
-use native.Mathlib.Omega.{arith}
-use Rattle.replies.proofs.Shape.{shape-small}
-use Rattle.replies.proofs.Returned.{found-within, lower-returns, split-returns}
+use Rattle.replies.proofs.Shape.{shape-small, level-small, replies-fit, waits-fit}
+use Rattle.replies.proofs.Returned.{length-loaded, found-within, lower-returns, split-returns}
 use borrow.Author.Needs.{needs}
 use Rattle.replies.proofs.return_step.Statement.{statement}
 use Rattle.replies.proofs.return_step.Tie as tie
@@ -9,12 +8,14 @@ use Rattle.replies.proofs.return_step.Tie as tie
 oldest-reply-requires : tie.Need-oldest-reply-requires
 oldest-reply-requires c κs =
     let s = c .before in
-    ((omega (arith, shape-small (s .pre .0 .stands), s .pre .1 .0), s .pre .1 .0 .2), s .pre .1 .1)
+    let S = s .pre .0 .stands in
+    ((level-small S _ (s .pre .1 .0 .1), s .pre .1 .0 .2), (s .pre .1 .1, replies-fit S _ _))
 
 load-waits-requires : tie.Need-load-waits-requires
 load-waits-requires c κs =
     let s = c .before .before .before in
-    (omega (arith, shape-small (s .pre .0 .stands), s .pre .1 .0), s .pre .1 .0 .2)
+    let S = s .pre .0 .stands in
+    ((level-small S _ (s .pre .1 .0 .1), s .pre .1 .0 .2), waits-fit S .few _ _)
 
 find-requires : tie.Need-find-requires
 find-requires c κs = search needs
@@ -28,11 +29,12 @@ split-requires c κs =
     let found = hit .before .before in
     let loaded = found .before in
     let s = loaded .before .before .before .before in
-    let small = shape-small (s .pre .0 .stands) in (
+    let S = s .pre .0 .stands in
+    let w = loaded .load-waits .ensures in (
       s .pre .0 .sized,
       (
-        (s .pre .1 .0 .0, omega (arith, small, s .pre .1 .0), s .pre .1 .0 .2, small .1),
-        (loaded .load-waits .ensures .1, found-within _ _ _ (rw (hit .found .given .1) at (found .find .ensures))),
+        (s .pre .1 .0 .0, level-small S _ (s .pre .1 .0 .1), s .pre .1 .0 .2, shape-small S .2),
+        (w .1, found-within _ _ _ (rw (hit .found .given .1) at (found .find .ensures)), length-loaded _ (w .0)),
       ),
     )
 
@@ -42,8 +44,8 @@ enum-told c = search needs
 lower-requires : tie.Need-lower-requires
 lower-requires c κs =
     let s = c .before .before .before .before .before .before .before .before in
-    let small = shape-small (s .pre .0 .stands) in
-    (s .pre .0 .sized, ((s .pre .1 .0 .0, omega (arith, small, s .pre .1 .0), s .pre .1 .0 .2, small .1), s .pre .1 .1))
+    let S = s .pre .0 .stands in
+    (s .pre .0 .sized, ((s .pre .1 .0 .0, level-small S _ (s .pre .1 .0 .1), s .pre .1 .0 .2, shape-small S .2), s .pre .1 .1))
 
 returns : tie.Need-returns
 returns c =

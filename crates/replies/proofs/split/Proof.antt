@@ -5,7 +5,7 @@ use lib.ListN.{getD}
 use Rattle.view.specs.View.{Pair}
 use Rattle.queue.specs.Queue.{pairsOf, noPair}
 use Rattle.queue.proofs.Laws.{pairs-at}
-use Rattle.replies.proofs.Returned.{split-full, split-room, answered-room}
+use Rattle.replies.proofs.Returned.{split-full, split-room, answered-room, one-less}
 use borrow.Author.Needs.{needs}
 use Rattle.replies.proofs.split.Statement.{statement}
 use Rattle.replies.proofs.split.Tie as tie
@@ -62,12 +62,16 @@ push-reply-requires c κs =
 removed-requires : tie.Need-removed-requires
 removed-requires c κs = search needs
 
-store-waits-requires : tie.Need-store-waits-requires
-store-waits-requires c κs =
+store-shorter-waits-requires : tie.Need-store-shorter-waits-requires
+store-shorter-waits-requires c κs =
     let fewer = c .before in
     let pushed = fewer .before in
-    let s = pushed .before .before .before .before .before .before .before .before .before .before .before .before .before .before .before .before .before in
-    (pushed .push-reply .ensures .sized, ((s .pre .1 .0 .1, s .pre .1 .0 .2), fewer .removed .ensures .1))
+    let set = pushed .before .before in
+    let s = set .before .before .before .before .before .before .before .before .before .before .before .before .before .before .before in
+    let r = fewer .removed .ensures in
+    let push = pushed .push-reply .ensures in
+    let size = one-less (s .args .m .now) _ _ _ _ _ (s .pre .1 .1 .1) (s .pre .1 .1 .2) (r .0) _ _ (set .set-value .ensures) _ _ _ push in
+    (push .sized, ((s .pre .1 .0 .1, s .pre .1 .0 .2), (r .1, size)))
 
 returns : tie.Need-returns
 returns c =
@@ -85,7 +89,7 @@ returns c =
     let s = u .before in
     split-room (s .args .m .now) (s .args .level) _ _ _ _ _ _ _ (omega (arith, s .pre .1 .0)) (second-is u) (on .position-of .ensures .0) _ _ _ _
     (omega (arith, count .reply-count .ensures, room .queue-room .ensures, test .if1 .taken)) (f .operation-at .ensures) (value .value-at .ensures) (applied .apply .ensures)
-    (fewer .removed .ensures .0) (set .set-value .ensures) (pushed .push-reply .ensures) (c .store-waits .ensures)
+    (fewer .removed .ensures .0) (set .set-value .ensures) (pushed .push-reply .ensures) (c .store-shorter-waits .ensures)
 
 returns-2 : tie.Need-returns-2
 returns-2 c =
@@ -112,6 +116,6 @@ split-spec =
     set-value-requires
     push-reply-requires
     removed-requires
-    store-waits-requires
+    store-shorter-waits-requires
     returns
     returns-2)

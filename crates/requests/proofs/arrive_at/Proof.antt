@@ -1,8 +1,9 @@
 -- `arrive_at` meets its contract: refused, or what changed is stored.
+use native.Mathlib.Omega.{arith}
 use borrow.Author.Needs.{needs}
 use Rattle.store.specs.Memory.{view}
 use Rattle.node.specs.declared.Node.{Node}
-use Rattle.requests.proofs.Landings.{Loaded, loaded-apart, loaded-rooms, merges-still-few, went-refused, went-appended, went-merged}
+use Rattle.requests.proofs.Landings.{Loaded, loaded-apart, loaded-rooms, longer-by-one, recorded-by-one, merges-still-few, went-refused, went-appended, went-merged}
 use Rattle.requests.proofs.arrive_at.Statement.{statement}
 use Rattle.requests.proofs.arrive_at.Tie as tie
 
@@ -27,10 +28,10 @@ wait-room-requires : tie.Need-wait-room-requires
 wait-room-requires c κs = search needs
 
 load-requests-requires : tie.Need-load-requests-requires
-load-requests-requires c κs = let s = c .before .before .before .before .before in (s .pre .1 .0 .0, s .pre .1 .0 .1)
+load-requests-requires c κs = let s = c .before .before .before .before .before in ((s .pre .1 .0 .0, s .pre .1 .0 .1, s .pre .1 .0 .2), omega (arith, s .pre .1 .0 .3))
 
 load-waits-requires : tie.Need-load-waits-requires
-load-waits-requires c κs = let s = c .before .before .before .before .before .before .before in (s .pre .1 .0 .0, s .pre .1 .0 .1)
+load-waits-requires c κs = let s = c .before .before .before .before .before .before .before in ((s .pre .1 .0 .1, s .pre .1 .0 .2), s .pre .1 .0 .4)
 
 arrive-requires : tie.Need-arrive-requires
 arrive-requires c κs = let s = c .before .before .before .before .before .before .before .before .before in
@@ -38,7 +39,7 @@ arrive-requires c κs = let s = c .before .before .before .before .before .befor
       s .pre .0,
       (
         record { queue = c .before .before .before .load-requests .ensures .1; waiting = c .before .load-waits .ensures .1 },
-        (loaded-apart l (s .pre .1 .1), loaded-rooms l (s .pre .1 .0 .2) (s .pre .1 .0 .3)),
+        (loaded-apart l (s .pre .1 .1 .1), loaded-rooms l (s .pre .1 .1 .0 .0) (s .pre .1 .1 .0 .1)),
       ),
     )
 
@@ -48,24 +49,34 @@ enum-told c = search needs
 enum-told-2 : tie.Need-enum-told-2
 enum-told-2 c = search needs
 
-store-requests-requires : tie.Need-store-requests-requires
-store-requests-requires c κs = let s = c .before .before .before .before .before .before .before .before .before .before .before .before .before .before .before in
-    let arrived = c .before .before .before .before .before .arrive .ensures in
-    (arrived .sized, ((s .pre .1 .0 .0, s .pre .1 .0 .1), arrived .held .queue))
+store-longer-requests-requires : tie.Need-store-longer-requests-requires
+store-longer-requests-requires c κs = let s = c .before .before .before .before .before .before .before .before .before .before .before .before .before .before .before in
+    let a = c .before .before .before .before .before in (
+      a .arrive .ensures .sized,
+      (
+        (s .pre .1 .0 .0, s .pre .1 .0 .1, s .pre .1 .0 .2),
+        (a .arrive .ensures .held .queue, longer-by-one (loaded (a .before .before)) (a .arrive .ensures) (c .before .before .enum-told2 .given .1)),
+      ),
+    )
 
 enum-told-3 : tie.Need-enum-told-3
 enum-told-3 c = search needs
 
-store-waits-requires : tie.Need-store-waits-requires
-store-waits-requires c κs = let s = c .before .before .before .before .before .before .before .before .before .before .before .before .before .before .before in
-    let arrived = c .before .before .before .before .before .arrive .ensures in
-    (arrived .sized, ((s .pre .1 .0 .0, s .pre .1 .0 .1), arrived .held .waiting))
+store-longer-waits-requires : tie.Need-store-longer-waits-requires
+store-longer-waits-requires c κs = let s = c .before .before .before .before .before .before .before .before .before .before .before .before .before .before .before in
+    let a = c .before .before .before .before .before in (
+      a .arrive .ensures .sized,
+      (
+        (s .pre .1 .0 .1, s .pre .1 .0 .2),
+        (a .arrive .ensures .held .waiting, recorded-by-one (loaded (a .before .before)) (a .arrive .ensures) (c .before .before .enum-told3 .given .1)),
+      ),
+    )
 
 add-merge-requires : tie.Need-add-merge-requires
 add-merge-requires c κs = let s = c .before .before .before .before .before .before .before .before .before .before .before .before .before .before .before .before .before in
     let a = c .before .before .before .before .before .before .before in
-    let stored = c .before .store-waits .ensures in
-    (stored .sized, merges-still-few (loaded (a .before .before)) (a .arrive .ensures) stored (s .pre .1 .0 .4))
+    let stored = c .before .store-longer-waits .ensures in
+    (stored .sized, merges-still-few (loaded (a .before .before)) (a .arrive .ensures) stored (s .pre .1 .1 .0 .2))
 
 returns : tie.Need-returns
 returns c = let a = c .before .before .before in
@@ -73,11 +84,12 @@ returns c = let a = c .before .before .before in
 
 returns-2 : tie.Need-returns-2
 returns-2 c = let a = c .before .before .before .before .before .before in
-    went-appended (loaded (a .before .before)) (a .arrive .ensures) (c .before .before .before .enum-told2 .given .1) (c .store-requests .ensures)
+    went-appended (loaded (a .before .before)) (a .arrive .ensures) (c .before .before .before .enum-told2 .given .1) (c .store-longer-requests .ensures)
 
 returns-3 : tie.Need-returns-3
-returns-3 c = let a = c .before .before .before .before .before .before .before .before in
-    went-merged (loaded (a .before .before)) (a .arrive .ensures) (c .before .before .store-waits .ensures) (c .before .before .before .before .before .enum-told3 .given .1) (c .add-merge .ensures)
+returns-3 c = let stored = c .before .before in
+    let a = stored .before .before .before .before .before .before in
+    went-merged (loaded (a .before .before)) (a .arrive .ensures) (stored .store-longer-waits .ensures) (stored .before .before .before .enum-told3 .given .1) (c .add-merge .ensures)
 
 pub arrive-at-spec : {M : Type 1} → statement M
 arrive-at-spec =
@@ -90,9 +102,9 @@ arrive-at-spec =
     arrive-requires
     enum-told
     enum-told-2
-    store-requests-requires
+    store-longer-requests-requires
     enum-told-3
-    store-waits-requires
+    store-longer-waits-requires
     add-merge-requires
     returns
     returns-2

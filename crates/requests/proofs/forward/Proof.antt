@@ -2,7 +2,7 @@
 use Prim.Native.Nat.{_<_}
 use native.Mathlib.Omega.{arith}
 use Rattle.shown.specs.Reached.{single}
-use Rattle.requests.proofs.Onward.{levels-few, rooms, Going, going-apart, full-moves, source-filled, refused-moves, forward-goes, forwarded-moves}
+use Rattle.requests.proofs.Onward.{levels-few, rooms, queue-few, Going, going-apart, going-few, full-moves, source-filled, refused-moves, forward-goes, forwarded-moves}
 use Rattle.requests.proofs.forward.Statement.{statement}
 use Rattle.requests.proofs.forward.Tie as tie
 
@@ -16,7 +16,7 @@ low : (s : tie.Start) → s .args .level < 4
 low s = omega (arith, levels-few (s .pre .0), s .pre .1 .0 .1)
 
 oldest-request-requires : tie.Need-oldest-request-requires
-oldest-request-requires c κs = let s = c .before in ((omega (arith, low s), s .pre .1 .0 .2), s .pre .1 .1)
+oldest-request-requires c κs = let s = c .before in ((s .pre .1 .0 .0, omega (arith, low s), s .pre .1 .0 .2), (s .pre .1 .1, queue-few (s .pre .0) _ _ (s .pre .1 .0 .0)))
 
 add-position-of : tie.Need-add-position-of
 add-position-of c = record { fits = omega (arith, low (c .before .before .before)) }
@@ -28,7 +28,7 @@ add-is-full : tie.Need-add-is-full
 add-is-full c = record { fits = omega (arith, low (c .before .before .before .before .before)) }
 
 is-full-requires : tie.Need-is-full-requires
-is-full-requires c κs = (omega (arith, low (c .before .before .before .before .before)), c .before .position-of .ensures .1)
+is-full-requires c κs = (omega arith, omega (arith, low (c .before .before .before .before .before)), c .before .position-of .ensures .1)
 
 returns : tie.Need-returns
 returns c = full-moves (goes (c .before .before .before)) (c .before .is-full .ensures) (c .if1 .taken)
@@ -40,12 +40,13 @@ arrive-at-requires : tie.Need-arrive-at-requires
 arrive-at-requires c κs = let s = c .before .before .before .before .before .before .before .before in
     let to = c .before .before .before .before in
     let r = rooms (s .pre .0) in
-    (s .pre .0 .sized, ((omega (arith, low s), to .position-of .ensures .1, r .0, r .1, r .2), going-apart (goes to)))
+    let few = going-few (goes to) in
+    (s .pre .0 .sized, ((omega arith, omega (arith, low s), to .position-of .ensures .1, few .0, few .1), (r, going-apart (goes to))))
 
 pop-request-requires : tie.Need-pop-request-requires
 pop-request-requires c κs = let s = c .before .before .before .before .before .before .before .before .before .before .before in
     let went = c .before .before .arrive-at .ensures in
-    (went .sized, ((omega (arith, low s), s .pre .1 .0 .2), source-filled (goes (c .before .before .before .before .before .before .before)) went))
+    (went .sized, ((s .pre .1 .0 .0, omega (arith, low s), s .pre .1 .0 .2), source-filled (goes (c .before .before .before .before .before .before .before)) went))
 
 returns-2 : tie.Need-returns-2
 returns-2 c = let a = c .before .before in

@@ -2,24 +2,24 @@
 use native.Mathlib.Omega.{arith}
 use borrow.Author.Needs.{needs}
 use Rattle.shown.specs.Reached.{single}
-use Rattle.requests.proofs.Onward.{rooms, Going, going-apart, full-moves, requests-still-few, refused-moves, issue-goes, issued-moves}
+use Rattle.requests.proofs.Onward.{rooms, Going, going-apart, going-few, full-moves, count-still-few, refused-moves, issue-goes, issued-moves}
 use Rattle.requests.proofs.issue.Statement.{statement}
 use Rattle.requests.proofs.issue.Tie as tie
 
 -- the engine's next unissued request, on its path
 goes : (c : tie.After-position-of) → let s = c .before .before .before .before in
-    Going (s .args .m .now) (single 0 0 (s .args .e)) 0 (s .args .e) (c .before .before .oldest-request .result) (c .position-of .result)
+    Going (s .args .m .now) (single 0 0 (s .args .e)) 0 (s .args .e) (c .before .before .next-of .result) (c .position-of .result)
 goes c = let s = c .before .before .before .before in
-    issue-goes (s .pre .0) (s .pre .1 .1) (c .before .before .oldest-request .ensures) (c .position-of .ensures .0)
+    issue-goes (s .pre .0) (s .pre .1 .1) (c .before .before .next-of .ensures) (c .position-of .ensures .0)
 
-oldest-request-requires : tie.Need-oldest-request-requires
-oldest-request-requires c κs = let s = c .before in ((omega arith, s .pre .1 .0), s .pre .1 .1)
+next-of-requires : tie.Need-next-of-requires
+next-of-requires c κs = let s = c .before in (s .pre .1 .0, s .pre .1 .1)
 
 position-of-requires : tie.Need-position-of-requires
 position-of-requires c κs = search needs
 
 is-full-requires : tie.Need-is-full-requires
-is-full-requires c κs = (omega arith, c .before .position-of .ensures .1)
+is-full-requires c κs = (omega arith, omega arith, c .before .position-of .ensures .1)
 
 returns : tie.Need-returns
 returns c = full-moves (goes (c .before .before .before)) (c .before .is-full .ensures) (c .if1 .taken)
@@ -28,7 +28,8 @@ arrive-at-requires : tie.Need-arrive-at-requires
 arrive-at-requires c κs = let s = c .before .before .before .before .before .before .before .before in
     let to = c .before .before .before .before in
     let r = rooms (s .pre .0) in
-    (s .pre .0 .sized, ((omega arith, to .position-of .ensures .1, r .0, r .1, r .2), going-apart (goes to)))
+    let few = going-few (goes to) in
+    (s .pre .0 .sized, ((omega arith, omega arith, to .position-of .ensures .1, few .0, few .1), (r, going-apart (goes to))))
 
 after-of-requires : tie.Need-after-of-requires
 after-of-requires c κs = search needs
@@ -36,7 +37,7 @@ after-of-requires c κs = search needs
 set-next-requires : tie.Need-set-next-requires
 set-next-requires c κs = let s = c .before .before .before .before .before .before .before .before .before .before .before .before .before in
     let went = c .before .before .before .before .arrive-at .ensures in
-    (went .sized, (s .pre .1 .0, requests-still-few (goes (c .before .before .before .before .before .before .before .before .before)) went))
+    (went .sized, (s .pre .1 .0, count-still-few (goes (c .before .before .before .before .before .before .before .before .before)) went))
 
 returns-2 : tie.Need-returns-2
 returns-2 c = let a = c .before .before .before .before in
@@ -49,7 +50,7 @@ pub issue-spec : {M : Type 1} → statement M
 issue-spec =
     tie.close
     (tie.spec
-    oldest-request-requires
+    next-of-requires
     position-of-requires
     is-full-requires
     returns

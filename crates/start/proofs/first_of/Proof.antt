@@ -1,43 +1,32 @@
--- `start::first_of` meets its contract: an empty queue has no first request.
+-- `first_of` meets its contract: by whether the engine has a request so far.
 use mathlib.Core.Path.{_∙_}
 use native.Mathlib.Omega.{arith}
 use borrow.Author.Needs.{needs}
 use Rattle.store.specs.Memory.{view}
-use Rattle.start.proofs.Linking.{first-none, first-some}
+use Rattle.start.proofs.Linking.{first-none, first-some, first-there}
 use Rattle.start.proofs.first_of.Statement.{statement}
 use Rattle.start.proofs.first_of.Tie as tie
 
-request-count-requires : tie.Need-request-count-requires
-request-count-requires c κs = search needs
+no-request-requires : tie.Need-no-request-requires
+no-request-requires c κs = search needs
 
 requests-in-requires : tie.Need-requests-in-requires
 requests-in-requires c κs = search needs
 
 returns : tie.Need-returns
-returns c =
-    let start = c .before .before .before in
-    let count = c .before .before .request-count in
-    (c .requests-in .ensures ∙ first-none (view (start .args .m .now)) (start .args .e) (count .result) (count .ensures .0) (c .before .if1 .taken), omega arith)
+returns c = let s = c .before .before .before in
+    (c .requests-in .ensures ∙ first-none (view (s .args .m .now)) (s .args .e) (c .before .before .no-request .ensures) (c .before .if1 .taken), omega arith)
 
-oldest-request-requires : tie.Need-oldest-request-requires
-oldest-request-requires c κs = search needs
+next-of-requires : tie.Need-next-of-requires
+next-of-requires c κs = let s = c .before .before in
+    (s .pre .0, first-there (view (s .args .m .now)) (s .args .e) (c .before .no-request .ensures) (c .if1 .left))
 
 cast-result : tie.Need-cast-result
 cast-result c = search needs
 
 returns-2 : tie.Need-returns-2
-returns-2 c =
-    let start = c .before .before .before in
-    let count = c .before .before .request-count in
-    (c .oldest-request .ensures ∙ first-some (view (start .args .m .now)) (start .args .e) (count .result) (count .ensures .0) (c .before .if1 .left), omega arith)
+returns-2 c = let s = c .before .before .before in
+    (c .next-of .ensures ∙ first-some (view (s .args .m .now)) (s .args .e) (c .before .before .no-request .ensures) (c .before .if1 .left), omega arith)
 
 pub first-of-spec : {M : Type 1} → statement M
-first-of-spec =
-    tie.close
-    (tie.spec
-    request-count-requires
-    requests-in-requires
-    returns
-    oldest-request-requires
-    cast-result
-    returns-2)
+first-of-spec = tie.close (tie.spec no-request-requires requests-in-requires returns next-of-requires cast-result returns-2)

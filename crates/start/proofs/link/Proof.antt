@@ -1,10 +1,10 @@
--- `start::link` meets its contract, by `link-stored`.
-use mathlib.Core.Path.{ap}
+-- `link` meets its contract: what is stored is the request before its engine's first so far.
+use mathlib.Core.Path.{_∙_, ap}
+use Rattle.view.specs.View.{View}
+use Rattle.start.proofs.Linking.{link-stored}
+use Rattle.store.specs.Memory.{view}
 use native.Mathlib.Omega.{arith}
 use borrow.Author.Needs.{needs}
-use Rattle.view.specs.View.{View}
-use Rattle.store.specs.Memory.{view}
-use Rattle.start.proofs.Linking.{link-stored}
 use Rattle.start.proofs.link.Statement.{statement}
 use Rattle.start.proofs.link.Tie as tie
 

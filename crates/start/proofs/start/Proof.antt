@@ -1,7 +1,8 @@
--- `start::start` meets its contract. The loop's invariant: the requests from t on are linked, in every network that was loaded.
+-- `start` meets its contract. The loop's invariant: the requests from t on are linked. Its measure: the requests left.
 use mathlib.Core.Path.{_≡_}
-use native.Mathlib.Omega.{arith}
 use Rattle.start.proofs.Linking.{Linking, linking-none, linking-more, linking-all, loaded-within}
+use native.Mathlib.Omega.{arith}
+use borrow.Author.Needs.{needs}
 use Rattle.start.proofs.start.Statement.{statement}
 use Rattle.start.proofs.start.Tie as tie
 

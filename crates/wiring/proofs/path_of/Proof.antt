@@ -1,24 +1,39 @@
--- `wiring::path_of` meets its contract. The loop's invariant: the word has the positions of the levels from `left` on.
+-- `wiring::path_of` meets its contract. The loop's invariant: the word has the positions of the levels from `left` on, and the route is shifted so far.
 use native.Mathlib.Omega.{arith}
 use borrow.Author.Needs.{needs}
+use Rattle.wiring.specs.Wiring.{moduleOf}
+use Rattle.wiring.proofs.Shifts.{width-small, left-exact, left-small}
 use Rattle.wiring.proofs.Paths.{From, from-none, from-small, from-next, from-all}
 use Rattle.wiring.proofs.path_of.Statement.{statement}
 use Rattle.wiring.proofs.path_of.Tie as tie
 
 abbrev Inv-loop : tie.InvT-loop
-Inv-loop k engine address to path₀ left₀ path left = From k engine to left path
+Inv-loop k engine address route₀ path₀ left₀ route path left = From k engine (moduleOf k address) left route path
 
 abbrev μ-loop : tie.MeasureT-loop
-μ-loop k engine address to path₀ left₀ path left = left
+μ-loop k engine address route₀ path₀ left₀ route path left = left
+
+shl-route : tie.Need-shl-route Inv-loop μ-loop
+shl-route c = search needs
 
 module-of-requires : tie.Need-module-of-requires Inv-loop μ-loop
 module-of-requires c κs = search needs
+
+add-route : tie.Need-add-route Inv-loop μ-loop
+add-route c =
+    let s = c .before in
+    let small = width-small (s .args .k) (s .pre .0) in
+    let exact = left-exact (s .args .engine) (s .args .k) (omega (arith, s .pre .1, small)) (s .pre .0) in
+    record { fits = omega (arith, exact, left-small (s .args .engine) (s .args .k) (omega (arith, s .pre .1, small)) (s .pre .0), c .module-of .ensures .1, small) }
 
 add-left : tie.Need-add-left Inv-loop μ-loop
 add-left c = search needs
 
 loop-holds : tie.Need-loop-holds Inv-loop μ-loop
-loop-holds c = from-none (c .before .args .k) (c .before .args .engine) (c .module-of .result)
+loop-holds c =
+    let s = c .before in
+    let exact = left-exact (s .args .engine) (s .args .k) (omega (arith, s .pre .1, width-small (s .args .k) (s .pre .0))) (s .pre .0) in
+    rw (exact, c .module-of .ensures .0) (from-none (s .args .k) (s .args .engine) (moduleOf (s .args .k) (s .args .address)))
 
 sub-left : tie.Need-sub-left Inv-loop μ-loop
 sub-left c = search needs
@@ -27,17 +42,17 @@ mul-path : tie.Need-mul-path Inv-loop μ-loop
 mul-path c =
     let l = c .before .loop in
     let s = c .before .before .before in
-    record { fits = omega (arith, from-small (s .args .k) (s .args .engine) (c .before .before .module-of .result) (s .pre .0) (l .left) (l .path) (l .inv) (c .loop-test .taken)) }
+    record { fits = omega (arith, from-small (s .args .k) (s .args .engine) (moduleOf (s .args .k) (s .args .address)) (s .pre .0) (l .left) (l .route) (l .path) (l .inv) (c .loop-test .taken)) }
 
-position-requires : tie.Need-position-requires Inv-loop μ-loop
-position-requires c κs = search needs
+module-of-requires-2 : tie.Need-module-of-requires-2 Inv-loop μ-loop
+module-of-requires-2 c κs = search needs
 
 add-path : tie.Need-add-path Inv-loop μ-loop
 add-path c =
     let l = c .before .before .loop in
     let s = c .before .before .before .before in
-    let small = from-small (s .args .k) (s .args .engine) (c .before .before .before .module-of .result) (s .pre .0) (l .left) (l .path) (l .inv) (c .before .loop-test .taken) in
-    record { fits = omega (arith, small, c .position .ensures .1) }
+    let small = from-small (s .args .k) (s .args .engine) (moduleOf (s .args .k) (s .args .address)) (s .pre .0) (l .left) (l .route) (l .path) (l .inv) (c .before .loop-test .taken) in
+    record { fits = omega (arith, small, c .module-of2 .ensures .1, width-small (s .args .k) (s .pre .0)) }
 
 loop-less : tie.Need-loop-less Inv-loop μ-loop
 loop-less c = search needs
@@ -46,14 +61,14 @@ loop-again : tie.Need-loop-again Inv-loop μ-loop
 loop-again c =
     let l = c .before .before .loop in
     let s = c .before .before .before .before in
-    rw (c .position .ensures .0) (from-next (s .args .k) (s .args .engine) (c .before .before .before .module-of .result) (s .pre .0) (l .left) (l .path) (l .inv) (c .before .loop-test .taken))
+    rw (c .module-of2 .ensures .0)
+    (from-next (s .args .k) (s .args .engine) (moduleOf (s .args .k) (s .args .address)) (s .pre .0) (l .left) (l .route) (l .path) (l .inv) (c .before .loop-test .taken))
 
 returns : tie.Need-returns Inv-loop μ-loop
 returns c =
     let l = c .before .loop in
     let s = c .before .before .before in
-    let to = c .before .before .module-of in
-    rw (← (to .ensures .0)) (from-all (s .args .k) (s .args .engine) (to .result) (s .pre .0) (l .left) (l .path) (l .inv) (omega (arith, c .loop-test .left)))
+    from-all (s .args .k) (s .args .engine) (moduleOf (s .args .k) (s .args .address)) (s .pre .0) (l .left) (l .route) (l .path) (l .inv) (omega (arith, c .loop-test .left))
 
 pub path-of-spec : {M : Type 1} → statement M
 path-of-spec =
@@ -61,12 +76,14 @@ path-of-spec =
     (tie.spec
     Inv-loop
     μ-loop
+    shl-route
     module-of-requires
+    add-route
     add-left
     loop-holds
     sub-left
     mul-path
-    position-requires
+    module-of-requires-2
     add-path
     loop-less
     loop-again

@@ -23,7 +23,9 @@ module-of-requires c κs = search needs
 
 returns : tie.Need-returns
 unfolding position moduleOf
-returns c = (rw (c .module-of .ensures .0, c .before .before .shifted-left .ensures .0, c .before .shifted-right .ensures .0), omega (arith, c .module-of .ensures .1, width-small (c .before .before .before .args .k) (c .before .before .before .pre .0 .0)))
+returns c =
+    let s = c .before .before .before in
+    (rw (c .module-of .ensures .0, c .before .before .shifted-left .ensures .0, c .before .shifted-right .ensures .0), omega (arith, c .module-of .ensures .1, width-small (s .args .k) (s .pre .0 .0)))
 
 pub position-spec : {M : Type 1} → statement M
 position-spec =

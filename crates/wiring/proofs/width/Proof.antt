@@ -1,6 +1,5 @@
--- `width` meets its contract.
+-- `wiring::width` meets its contract.
 use native.Mathlib.Omega.{arith}
-use mathlib.Core.Path.{refl}
 use lib.Pow.{pow-mono}
 use Rattle.wiring.proofs.Shifts.{width-exact}
 use Rattle.wiring.proofs.width.Statement.{statement}

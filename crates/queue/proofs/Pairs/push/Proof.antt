@@ -5,11 +5,11 @@ use Rattle.queue.proofs.Laws.{pairs-push}
 use Rattle.queue.proofs.Pairs.push.Statement.{statement}
 use Rattle.queue.proofs.Pairs.push.Tie as tie
 
-with-byte-requires : tie.Need-with-byte-requires
-with-byte-requires c κs = search needs
+with-highest-requires : tie.Need-with-highest-requires
+with-highest-requires c κs = search needs
 
-with-byte-requires-2 : tie.Need-with-byte-requires-2
-with-byte-requires-2 c κs = search needs
+with-highest-requires-2 : tie.Need-with-highest-requires-2
+with-highest-requires-2 c κs = search needs
 
 add-self : tie.Need-add-self
 add-self c = search needs
@@ -18,9 +18,9 @@ returns : tie.Need-returns
 returns c =
     let s = c .before .before in
     let l = s .args .self in
-    let firsts = c .before .with-byte in
-    let seconds = c .with-byte2 in
+    let firsts = c .before .with-highest in
+    let seconds = c .with-highest2 in
     (pairs-push (l .firsts) (l .seconds) (l .len) (s .args .first) (s .args .second) (firsts .result) (seconds .result) (firsts .ensures) (seconds .ensures), omega arith)
 
 pub push-spec : {M : Type 1} → statement M
-push-spec = tie.close (tie.spec with-byte-requires with-byte-requires-2 add-self returns)
+push-spec = tie.close (tie.spec with-highest-requires with-highest-requires-2 add-self returns)

@@ -11,14 +11,14 @@ element-copy-out-n c = search needs
 add-at : tie.Need-add-at
 add-at c = omega (arith, order-length (c .before .args .m .now), c .before .pre .1)
 
-mul-with-byte : tie.Need-mul-with-byte
-mul-with-byte c = omega (arith, order-length (c .before .args .m .now), c .before .pre .1)
+mul-with-highest : tie.Need-mul-with-highest
+mul-with-highest c = omega (arith, order-length (c .before .args .m .now), c .before .pre .1)
 
-element-copy-out-with-byte : tie.Need-element-copy-out-with-byte
-element-copy-out-with-byte c = omega (arith, order-length (c .before .args .m .now), c .before .pre .1)
+element-copy-out-with-highest : tie.Need-element-copy-out-with-highest
+element-copy-out-with-highest c = omega (arith, order-length (c .before .args .m .now), c .before .pre .1)
 
-with-byte-requires : tie.Need-with-byte-requires
-with-byte-requires c κs = search needs
+with-highest-requires : tie.Need-with-highest-requires
+with-highest-requires c κs = search needs
 
 mul-m : tie.Need-mul-m
 mul-m c = omega (arith, order-length (c .before .before .before .args .m .now), c .before .before .before .pre .1)
@@ -33,7 +33,8 @@ element-write-m-2 : tie.Need-element-write-m-2
 element-write-m-2 c = search needs
 
 returns : tie.Need-returns
-returns c = let s = c .before .before .before in order-appended (s .args .m .now) (s .pre .0) (s .args .t) _ (omega (arith, order-length (s .args .m .now), s .pre .1)) (c .with-byte .ensures)
+returns c = let s = c .before .before .before in order-appended (s .args .m .now) (s .pre .0) (s .args .t) _
+    (omega (arith, order-length (s .args .m .now), s .pre .1)) (c .with-highest .ensures)
 
 pub append-order-spec : {M : Type 1} → statement M
 append-order-spec =
@@ -41,9 +42,9 @@ append-order-spec =
     (tie.spec
     element-copy-out-n
     add-at
-    mul-with-byte
-    element-copy-out-with-byte
-    with-byte-requires
+    mul-with-highest
+    element-copy-out-with-highest
+    with-highest-requires
     mul-m
     element-write-m
     add-m

@@ -1,7 +1,7 @@
 -- `set_answered` meets its contract: a mark set in its word.
 use native.Mathlib.Omega.{arith}
 use borrow.Author.Needs.{needs}
-use Rattle.store.proofs.Answered.{answer-set}
+use Rattle.store.proofs.Answered.{answered-none, answer-set}
 use Rattle.store.proofs.answers.set_answered.Statement.{statement}
 use Rattle.store.proofs.answers.set_answered.Tie as tie
 
@@ -15,7 +15,7 @@ element-copy-out-with-mark : tie.Need-element-copy-out-with-mark
 element-copy-out-with-mark c = search needs
 
 with-mark-requires : tie.Need-with-mark-requires
-with-mark-requires c κs = search needs
+with-mark-requires c κs = let s = c .before in (omega arith, answered-none (s .args .m .now) (s .args .t) (omega arith) (s .pre .1))
 
 mul-m : tie.Need-mul-m
 mul-m c = search needs
@@ -24,7 +24,7 @@ element-write-m : tie.Need-element-write-m
 element-write-m c = search needs
 
 returns : tie.Need-returns
-returns c = let s = c .before .before in answer-set (s .args .m .now) (s .pre) (s .args .t) _ (omega arith) (c .with-mark .ensures)
+returns c = let s = c .before .before in answer-set (s .args .m .now) (s .pre .0) (s .args .t) _ (omega arith) (c .with-mark .ensures)
 
 pub set-answered-spec : {M : Type 1} → statement M
 set-answered-spec =

@@ -1,8 +1,7 @@
 -- `load_replies` meets its contract: a word and its length.
+use native.Mathlib.Omega.{arith}
 use borrow.Author.Needs.{needs}
-use Rattle.store.specs.Layout.{atReplyLengths, atReplies}
-use Rattle.store.specs.Memory.{view}
-use Rattle.store.proofs.Queued.{queue-is}
+use Rattle.store.proofs.Queued.{replies-is}
 use Rattle.store.proofs.queues.load_replies.Statement.{statement}
 use Rattle.store.proofs.queues.load_replies.Tie as tie
 
@@ -22,14 +21,22 @@ element-copy-out-t10 : tie.Need-element-copy-out-t10
 element-copy-out-t10 c = search needs
 
 reply-count-requires : tie.Need-reply-count-requires
-reply-count-requires c κs = search needs
+reply-count-requires c κs = c .before .pre .0
 
 returns : tie.Need-returns
-unfolding view
-returns c = let s = c .before .before in
-    (queue-is atReplyLengths atReplies (s .args .m .now) (s .args .level) (s .args .position) (s .pre) (c .reply-count .result) (c .reply-count .ensures .0), c .reply-count .ensures .1)
+returns c = let s = c .before .before in (
+  replies-is (s .args .m .now) (s .args .level) (s .args .position) (s .pre .0) (c .reply-count .result) (c .reply-count .ensures .0),
+  omega (arith, c .reply-count .ensures .0, s .pre .1),
+)
 
 pub load-replies-spec : {M : Type 1} → statement M
 load-replies-spec =
     tie.close
-    (tie.spec mul-t4 add-t5 add-t6 mul-t7 element-copy-out-t10 reply-count-requires returns)
+    (tie.spec
+    mul-t4
+    add-t5
+    add-t6
+    mul-t7
+    element-copy-out-t10
+    reply-count-requires
+    returns)

@@ -1,8 +1,7 @@
 -- `load_requests` meets its contract: a word and its length.
+use native.Mathlib.Omega.{arith}
 use borrow.Author.Needs.{needs}
-use Rattle.store.specs.Layout.{atRequestLengths, atRequests}
-use Rattle.store.specs.Memory.{view}
-use Rattle.store.proofs.Queued.{queue-is}
+use Rattle.store.proofs.Queued.{requests-is}
 use Rattle.store.proofs.queues.load_requests.Statement.{statement}
 use Rattle.store.proofs.queues.load_requests.Tie as tie
 
@@ -22,14 +21,22 @@ element-copy-out-t10 : tie.Need-element-copy-out-t10
 element-copy-out-t10 c = search needs
 
 request-count-requires : tie.Need-request-count-requires
-request-count-requires c κs = search needs
+request-count-requires c κs = c .before .pre .0
 
 returns : tie.Need-returns
-unfolding view
-returns c = let s = c .before .before in
-    (queue-is atRequestLengths atRequests (s .args .m .now) (s .args .level) (s .args .position) (s .pre) (c .request-count .result) (c .request-count .ensures .0), c .request-count .ensures .1)
+returns c = let s = c .before .before in (
+  requests-is (s .args .m .now) (s .args .level) (s .args .position) (s .pre .0 .1, s .pre .0 .2) (s .pre .0 .0) (c .request-count .result) (c .request-count .ensures .0),
+  omega (arith, c .request-count .ensures .0, s .pre .1),
+)
 
 pub load-requests-spec : {M : Type 1} → statement M
 load-requests-spec =
     tie.close
-    (tie.spec mul-t4 add-t5 add-t6 mul-t7 element-copy-out-t10 request-count-requires returns)
+    (tie.spec
+    mul-t4
+    add-t5
+    add-t6
+    mul-t7
+    element-copy-out-t10
+    request-count-requires
+    returns)

@@ -1,4 +1,5 @@
 -- `load_waits` meets its contract: two words and their length.
+use native.Mathlib.Omega.{arith}
 use borrow.Author.Needs.{needs}
 use Rattle.store.proofs.Queued.{waits-is}
 use Rattle.store.proofs.queues.load_waits.Statement.{statement}
@@ -29,11 +30,13 @@ element-copy-out-t14 : tie.Need-element-copy-out-t14
 element-copy-out-t14 c = search needs
 
 wait-count-requires : tie.Need-wait-count-requires
-wait-count-requires c κs = search needs
+wait-count-requires c κs = c .before .before .pre .0
 
 returns : tie.Need-returns
-returns c = let s = c .before .before .before in
-    (waits-is (s .args .m .now) (s .args .level) (s .args .position) (s .pre) (c .wait-count .result) (c .wait-count .ensures .0), c .wait-count .ensures .1)
+returns c = let s = c .before .before .before in (
+  waits-is (s .args .m .now) (s .args .level) (s .args .position) (s .pre .0) (c .wait-count .result) (c .wait-count .ensures .0),
+  omega (arith, c .wait-count .ensures .0, s .pre .1),
+)
 
 pub load-waits-spec : {M : Type 1} → statement M
 load-waits-spec =

@@ -1,8 +1,6 @@
 -- `next_reply` meets its contract: the next length that is not 0.
 use borrow.Author.Needs.{needs}
-use Rattle.store.specs.Layout.{atReplyLengths, atReplies}
-use Rattle.store.specs.Memory.{view}
-use Rattle.store.proofs.Queued.{next-full}
+use Rattle.store.proofs.Queued.{next-reply}
 use Rattle.store.proofs.queues.next_reply.Statement.{statement}
 use Rattle.store.proofs.queues.next_reply.Tie as tie
 
@@ -16,13 +14,17 @@ element-copy-out-next-busy : tie.Need-element-copy-out-next-busy
 element-copy-out-next-busy c = search needs
 
 next-busy-requires : tie.Need-next-busy-requires
-next-busy-requires c κs = search needs
+next-busy-requires c κs = c .before .pre .1
 
 returns : tie.Need-returns
-unfolding view
-returns c = let s = c .before .before in next-full atReplyLengths atReplies (s .args .m .now) (s .args .level) (s .args .from) (c .next-busy .result) (s .pre .0) (c .next-busy .ensures)
+returns c = let s = c .before .before in next-reply (s .args .m .now) (s .args .level) (s .args .from) (c .next-busy .result) (s .pre .0) (c .next-busy .ensures)
 
 pub next-reply-spec : {M : Type 1} → statement M
 next-reply-spec =
     tie.close
-    (tie.spec add-next-busy mul-next-busy element-copy-out-next-busy next-busy-requires returns)
+    (tie.spec
+    add-next-busy
+    mul-next-busy
+    element-copy-out-next-busy
+    next-busy-requires
+    returns)

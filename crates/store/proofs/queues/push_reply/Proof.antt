@@ -1,9 +1,7 @@
 -- `push_reply` meets its contract: a byte below all others, and the length.
 use native.Mathlib.Omega.{arith}
 use borrow.Author.Needs.{needs}
-use Rattle.store.specs.Layout.{atReplyLengths, atReplies}
-use Rattle.store.specs.Memory.{view}
-use Rattle.store.proofs.Queued.{queue-length, row-kept, queue-pushed, replies-changed}
+use Rattle.store.proofs.Queued.{reply-count-kept, reply-pushed}
 use Rattle.store.proofs.queues.push_reply.Statement.{statement}
 use Rattle.store.proofs.queues.push_reply.Tie as tie
 
@@ -41,12 +39,8 @@ element-copy-out-one-more : tie.Need-element-copy-out-one-more
 element-copy-out-one-more c = search needs
 
 one-more-requires : tie.Need-one-more-requires
-unfolding view
-one-more-requires c κs = let s = c .before .before .before in (
-  s .pre .1 .0 .1,
-  rw (row-kept atReplyLengths atReplies (s .args .m .now) (s .args .level) (s .args .position) (omega arith) (s .pre .1 .0) (s .pre .0) _)
-      (omega (arith, queue-length atReplyLengths atReplies (s .args .m .now) (s .args .level) (s .args .position) (s .pre .1 .0), s .pre .1 .1)),
-)
+one-more-requires c κs = let s = c .before .before .before in
+    (s .pre .1 .0 .1, omega (arith, reply-count-kept (s .args .m .now) (s .pre .0) (s .args .level) (s .args .position) (s .pre .1 .0) (c .before .with-lowest .result), s .pre .1 .1))
 
 mul-m-2 : tie.Need-mul-m-2
 mul-m-2 c = search needs
@@ -55,10 +49,8 @@ element-write-m-2 : tie.Need-element-write-m-2
 element-write-m-2 c = search needs
 
 returns : tie.Need-returns
-unfolding view
 returns c = let s = c .before .before .before .before in
-    replies-changed (queue-pushed atReplyLengths atReplies (s .args .m .now) (s .args .level) (s .args .position) (omega arith) (s .pre .1 .0) (s .pre .0) (s .args .t) _ _ (s .pre .1 .1)
-    (c .before .before .with-lowest .ensures) (c .one-more .ensures))
+    reply-pushed (s .args .m .now) (s .pre .0) (s .args .level) (s .args .position) (s .pre .1 .0) (s .args .t) _ _ (s .pre .1 .1) (c .before .before .with-lowest .ensures) (c .one-more .ensures)
 
 pub push-reply-spec : {M : Type 1} → statement M
 push-reply-spec =

@@ -1,9 +1,7 @@
 -- `request_count` meets its contract: a length in its row.
 use mathlib.Core.Path.{sym, _∙_}
 use borrow.Author.Needs.{needs}
-use Rattle.store.specs.Layout.{atRequestLengths, atRequests}
-use Rattle.store.specs.Memory.{view}
-use Rattle.store.proofs.Queued.{queue-length}
+use Rattle.store.proofs.Queued.{requests-length}
 use Rattle.store.proofs.queues.request_count.Statement.{statement}
 use Rattle.store.proofs.queues.request_count.Tie as tie
 
@@ -17,14 +15,18 @@ element-copy-out-length-in : tie.Need-element-copy-out-length-in
 element-copy-out-length-in c = search needs
 
 length-in-requires : tie.Need-length-in-requires
-length-in-requires c κs = search needs
+length-in-requires c κs = c .before .pre .2
 
 returns : tie.Need-returns
-unfolding view
 returns c = let s = c .before .before in
-    (c .length-in .ensures .0 ∙ sym (queue-length atRequestLengths atRequests (s .args .m .now) (s .args .level) (s .args .position) (s .pre)), c .length-in .ensures .1)
+    (c .length-in .ensures .0 ∙ sym (requests-length (s .args .m .now) (s .args .level) (s .args .position) (s .pre .1, s .pre .2) (s .pre .0)), c .length-in .ensures .1)
 
 pub request-count-spec : {M : Type 1} → statement M
 request-count-spec =
     tie.close
-    (tie.spec add-length-in mul-length-in element-copy-out-length-in length-in-requires returns)
+    (tie.spec
+    add-length-in
+    mul-length-in
+    element-copy-out-length-in
+    length-in-requires
+    returns)

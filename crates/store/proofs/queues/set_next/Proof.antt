@@ -1,6 +1,7 @@
--- `set_next` meets its contract: a queue of one, or of none.
+-- `set_next` meets its contract: a queue of one, which was none or was one before, or of none.
+use mathlib.Core.Path.{_∙_}
 use borrow.Author.Needs.{needs}
-use Rattle.store.proofs.Queued.{next-set, next-none}
+use Rattle.store.proofs.Queued.{next-first, next-again, next-none}
 use Rattle.store.proofs.queues.set_next.Statement.{statement}
 use Rattle.store.proofs.queues.set_next.Tie as tie
 
@@ -19,24 +20,34 @@ mul-m c = search needs
 element-write-m : tie.Need-element-write-m
 element-write-m c = search needs
 
-with-length-requires : tie.Need-with-length-requires
-with-length-requires c κs = search needs
+length-in-requires : tie.Need-length-in-requires
+length-in-requires c κs = search needs
+
+one-more-requires : tie.Need-one-more-requires
+one-more-requires c κs = search needs
 
 element-write-m-2 : tie.Need-element-write-m-2
 element-write-m-2 c = search needs
 
 returns : tie.Need-returns
-returns c = let s = c .before .before .before .before in next-set (s .args .m .now) (s .pre .0) (s .args .e) (s .args .n) _ (s .pre .1 .0) (s .pre .1 .1)
-    (c .before .if1 .taken) (c .with-length .ensures)
+returns c = let had = c .before .before .before in
+    let s = had .before .before .before in
+    next-first (s .args .m .now) (s .args .e) (s .pre .1 .0) (s .pre .0) (s .args .n) (s .pre .1 .1) (had .if1 .taken) _ (c .one-more .ensures)
 
-with-length-requires-2 : tie.Need-with-length-requires-2
-with-length-requires-2 c κs = search needs
+returns-2 : tie.Need-returns-2
+returns-2 c = let had = c .before .before in
+    let s = had .before .before .before in
+    next-again (s .args .m .now) (s .args .e) (s .pre .1 .0) (s .pre .0) (s .args .n) (s .pre .1 .1) (had .if1 .taken) (λ z. c .if2 .left (c .before .length-in .ensures .0 ∙ z))
+
+with-length-requires : tie.Need-with-length-requires
+with-length-requires c κs = search needs
 
 element-write-m-3 : tie.Need-element-write-m-3
 element-write-m-3 c = search needs
 
-returns-2 : tie.Need-returns-2
-returns-2 c = let s = c .before .before .before .before in next-none (s .args .m .now) (s .pre .0) (s .args .e) (s .args .n) _ (s .pre .1 .0) (c .before .if1 .left) (c .with-length2 .ensures)
+returns-3 : tie.Need-returns-3
+returns-3 c = let s = c .before .before .before .before in
+    next-none (s .args .m .now) (s .args .e) (s .pre .1 .0) (s .pre .0) (s .args .n) _ (c .before .if1 .left) (c .with-length .ensures)
 
 pub set-next-spec : {M : Type 1} → statement M
 set-next-spec =
@@ -47,9 +58,11 @@ set-next-spec =
     add-m
     mul-m
     element-write-m
-    with-length-requires
+    length-in-requires
+    one-more-requires
     element-write-m-2
     returns
-    with-length-requires-2
+    returns-2
+    with-length-requires
     element-write-m-3
-    returns-2)
+    returns-3)

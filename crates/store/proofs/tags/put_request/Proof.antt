@@ -46,7 +46,7 @@ element-write-m-3 c = search needs
 
 returns : tie.Need-returns
 returns c = let s = c .before in
-    request-put (s .args .m .now) (s .pre .0) (s .args .t) (s .pre .1 .0) (s .args .address) (s .args .path) (s .args .asked) (s .pre .1 .2) (omega arith) (s .pre .1 .1)
+    request-put (s .args .m .now) (s .pre .0) (s .args .t) (s .pre .1 .0) (s .args .address) (s .args .path) (s .args .asked) (s .pre .1 .2) (omega arith)
 
 pub put-request-spec : {M : Type 1} → statement M
 put-request-spec =
