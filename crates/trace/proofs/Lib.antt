@@ -13,6 +13,7 @@ pub mod Verdicts
 pub mod Masks
 pub mod Events
 pub mod Runs
+pub mod Requests
 pub mod Levels
 pub mod Answers
 pub mod Held

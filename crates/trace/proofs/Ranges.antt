@@ -15,7 +15,7 @@ use Rattle.trace.specs.Bytes.{AreBytes}
 use Rattle.trace.specs.Item.{Shape, Request, Item, shape, word, request, event, drain, kindOf, Items, none, after}
 use Rattle.trace.specs.Contents.{contents, add, shapeOf, wordsGiven, requestsOf, actsOf, sectionOf, section, lastSection}
 use Rattle.operation.specs.Operation.{operandsFit}
-use Rattle.trace.specs.Refusals.{mayFollow, shapeFits, requestFits, ownFault, fault}
+use Rattle.trace.specs.Refusals.{unless, orElse, mayFollow, shapeFits, requestFits, ownFault, fault}
 use Rattle.trace.specs.Check.{accepted, check, Valid, valid-after}
 use Rattle.trace.specs.Write.{WordBytes, RequestBytes, EventBytes, AllFitBytes, after-fit}
 use Rattle.trace.specs.Ranges.{ShapeIn, RequestIn, EventIn, ActIn, InRange}
@@ -96,23 +96,30 @@ pub shape-in-range : (before : Items) (s : Shape) → fault before (shape s) ≡
 unfolding ownFault
 shape-in-range before s h = shape-in s (unless-zero (shapeFits s) 4 (own-clean before (shape s) h))
 
-pub requests-few : (before : Items) (r : Request) → fault before (request r) ≡ 0 → length (requestsOf before) < 256
-unfolding ownFault
-requests-few before r h =
-    ltb-true (length (requestsOf before)) 256 (unless-zero (ltb (length (requestsOf before)) 256) 8 (or-else-zero _ _ (own-clean before (request r) h) .0))
+-- what a request is refused for, t of them before it
+abbrev pub requestFault : ℕ → ℕ → Request → ℕ
+requestFault k t r = orElse (unless (ltb t 256) 9) (unless (requestFits k r) 7)
 
-fitting : (before : Items) (r : Request) → fault before (request r) ≡ 0 → (r .engine < 2 ^ shapeOf before .k) × (operandsFit (r .operation) (r .first) (r .second) ≡ true)
-unfolding ownFault requestFits
-fitting before r h =
-    let right = unless-zero (requestFits (shapeOf before .k) r) 6 (or-else-zero _ _ (own-clean before (request r) h) .1) in
-    let parts = both-true (ltb (r .engine) (2 ^ shapeOf before .k)) (operandsFit (r .operation) (r .first) (r .second)) right in
-    (ltb-true (r .engine) (2 ^ shapeOf before .k) (parts .0), parts .1)
+pub request-right : (k t : ℕ) (r : Request) → requestFault k t r ≡ 0 → (t < 256) × (r .engine < 2 ^ k) × (operandsFit (r .operation) (r .first) (r .second) ≡ true)
+unfolding requestFits
+request-right k t r h =
+    let parts = or-else-zero _ _ h in
+    let fits = both-true (ltb (r .engine) (2 ^ k)) (operandsFit (r .operation) (r .first) (r .second)) (unless-zero (requestFits k r) 6 (parts .1)) in
+    (ltb-true t 256 (unless-zero (ltb t 256) 8 (parts .0)), ltb-true (r .engine) (2 ^ k) (fits .0), fits .1)
+
+fitting : (before : Items) (r : Request) → fault before (request r) ≡ 0 →
+    (length (requestsOf before) < 256) × (r .engine < 2 ^ shapeOf before .k) × (operandsFit (r .operation) (r .first) (r .second) ≡ true)
+unfolding ownFault
+fitting before r h = request-right (shapeOf before .k) (length (requestsOf before)) r (own-clean before (request r) h)
+
+pub requests-few : (before : Items) (r : Request) → fault before (request r) ≡ 0 → length (requestsOf before) < 256
+requests-few before r h = fitting before r h .0
 
 pub engine-below : (before : Items) (r : Request) → fault before (request r) ≡ 0 → r .engine < 2 ^ shapeOf before .k
-engine-below before r h = fitting before r h .0
+engine-below before r h = fitting before r h .1
 
 request-in : (before : Items) (r : Request) → RequestBytes r → fault before (request r) ≡ 0 → RequestIn (shapeOf before .k) r
-request-in before r fits h = record { fits = fits; engine-below = fitting before r h .0; operands = fitting before r h .1 }
+request-in before r fits h = record { fits = fits; engine-below = fitting before r h .1; operands = fitting before r h .2 }
 
 event-in : (before : Items) (e : Event) → EventBytes e → fault before (event e) ≡ 0 → EventIn (shapeOf before .k) e
 unfolding ownFault

@@ -200,6 +200,9 @@ pub body-long : {s : List ℕ} {kind : ℕ} {b : List ℕ} → Whole s kind b �
 body-long {s} {kind} {b} w =
     ap length (w .body-is) ∙ length-take-le (bodySize kind) (drop 4 s) (simp length-drop (omega (arith, w .fits)))
 
+pub body-size : (s : List ℕ) (at size : ℕ) {b : List ℕ} → b ≡ take size (drop (at + 4) s) → at + 4 + size ≤ length s → length b ≡ size
+body-size s at size is inside = ap length is ∙ length-take-le size (drop (at + 4) s) (simp length-drop (omega arith))
+
 -- the body that a head announces
 pub record Body (s : List ℕ) (at kind size : ℕ) (b : List ℕ) : Type 0 where
   pub stands : split (drop at s) ≡ whole kind b
@@ -211,5 +214,5 @@ pub body-at : {s : List ℕ} {at kind size : ℕ} {b : List ℕ} → whole kind 
 body-at {s} {at} {kind} {size} {b} says fits is = record {
   stands = rw is (sym says);
   fits = fits;
-  long = ap length is ∙ length-take-le size (drop (at + 4) s) (simp length-drop (omega (arith, fits .inside)));
+  long = body-size s at size is (fits .inside);
 }

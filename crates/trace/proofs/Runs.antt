@@ -68,19 +68,24 @@ passed-act {s} {k} {at} {end} p a inside stands sound = record {
 }
 
 -- a record, by the one number that its header spells
-record-stands : {s : List ℕ} → AreBytes s → (i kind : ℕ) → 0 < bodySize kind → bodySize kind < 65536 → number 4 s i ≡ bodySize kind + 65536 * kind →
-    i + 4 + bodySize kind ≤ length s →
-    records (drop i s) ≡ next (item kind (take (bodySize kind) (drop (i + 4) s))) (records (drop (i + (4 + bodySize kind)) s))
-record-stands {s} are i kind some low e inside =
+pub header-whole : {s : List ℕ} → AreBytes s → (i kind : ℕ) → 0 < bodySize kind → bodySize kind < 65536 → number 4 s i ≡ bodySize kind + 65536 * kind →
+    i + 4 + bodySize kind ≤ length s → Whole (drop i s) kind (take (bodySize kind) (drop (i + 4) s))
+header-whole {s} are i kind some low e inside =
     let halves = number-join 2 2 s i in
     let first = number-below are 2 i in
-    let w : Whole (drop i s) kind (take (bodySize kind) (drop (i + 4) s)) = record {
+    record {
       kind-is = number-drop 2 s i 2 ∙ omega arith;
       size-is = number-drop 2 s i 0 ∙ rw add-zero (omega arith);
       some = some;
       fits = simp length-drop (omega arith);
       body-is = rw drop-drop;
-    } in
+    }
+
+record-stands : {s : List ℕ} → AreBytes s → (i kind : ℕ) → 0 < bodySize kind → bodySize kind < 65536 → number 4 s i ≡ bodySize kind + 65536 * kind →
+    i + 4 + bodySize kind ≤ length s →
+    records (drop i s) ≡ next (item kind (take (bodySize kind) (drop (i + 4) s))) (records (drop (i + (4 + bodySize kind)) s))
+record-stands {s} are i kind some low e inside =
+    let w = header-whole are i kind some low e inside in
     records-whole (drop i s) kind _ (is-whole w) ∙ rw (body-long w, drop-drop)
 
 -- a byte of a part of the trace

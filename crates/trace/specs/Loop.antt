@@ -1,6 +1,6 @@
 -- The loop's own invariant, and the promises of the private functions under it. Nothing here has to be believed: no contract of a public
 -- function names it.
-use Prim.Native.Nat.{ℕ, _+_, _≤_, _<_, _^_}
+use Prim.Native.Nat.{ℕ, _+_, _*_, _≤_, _<_, _^_}
 use mathlib.Core.Path.{_≡_}
 use mathlib.Core.Bool.{Bool, true}
 use mathlib.Core.List.{List}
@@ -137,6 +137,29 @@ abbrev pub TurnRight : List ℕ → Progress → List ℕ → List ℕ → List 
 TurnRight s p marks words m Stop = Decided s p marks words m ended
 TurnRight s p marks words m (Fail f) = Decided s p marks words m (refused (numberOf f))
 TurnRight s p marks words m (Go p′) = (p .at < p′ .at) × Inside s p′ marks words m
+
+-- past n more requests
+abbrev pub pastRequests : Progress → ℕ → Progress
+pastRequests p n =
+    record {
+      at = p .at + 23 * n;
+      section = p .section;
+      k = p .k;
+      q = p .q;
+      w = p .w;
+      requests = p .requests + n;
+      «acts_at» = p .«acts_at» + 23 * n;
+    }
+
+-- behind a request stand n more that are not refused, and go into the machine m
+pub record RequestsPassed (s : List ℕ) (p : Progress) (n : ℕ) (m m′ : List ℕ) : Type 0 where
+  pub inside : p .at + 23 * n ≤ length s
+  pub sized : length m′ ≡ machineSize
+  pub run : p .section ≡ 3 → (marks words : List ℕ) → Inside s p marks words m → Inside s (pastRequests p n) marks words m′
+
+pub record RequestsOnward (s : List ℕ) (p : Progress) (m : List ℕ) (p′ : Progress) (m′ : List ℕ) : Type 0 where
+  pub onward : p .at ≤ p′ .at
+  pub inside : (marks words : List ℕ) → Inside s p marks words m → Inside s p′ marks words m′
 
 -- the same but for the acts
 pub record Same (xs ys : Items) : Type 0 where

@@ -93,7 +93,8 @@ pub fn load(s: &[u8], given: &mut [u8; 256], words: &mut [u64; 256], m: &mut Mac
                 return Answer::Refused(f, p.at);
             }
             Turn::Go(q) => {
-                p = turn::past_acts(s, q);
+                let r = turn::past_requests(s, q, m);
+                p = turn::past_acts(s, r);
             }
         }
     }

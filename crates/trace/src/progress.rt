@@ -73,7 +73,7 @@ fn put_word(b: &[u8], marks: &mut [u8; 256], words: &mut [u64; 256])
     words[a] = v;
 }
 
-fn put_request(b: &[u8], k: u8, t: usize, m: &mut Machine)
+pub(crate) fn put_request(b: &[u8], k: u8, t: usize, m: &mut Machine)
     requires { ⌜ (length (now b) ≡ 19) × (k ≤ 4) × (getD (now b) 0 0 < 2 ^ k) × (t < 256) × (length (now m) ≡ machineSize) ⌝ }
     ensures { λ _. ⌜ RequestPut k (requestIn (now (b .entry))) t (now (m .entry)) (now (m .exit)) ⌝ }
 {

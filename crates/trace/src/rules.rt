@@ -108,7 +108,7 @@ fn word_fault(b: &[u8], marks: &[u8; 256]) -> Finding
     Finding::Faulty(Fault::Twice)
 }
 
-fn request_fault(b: &[u8], k: u8, requests: usize) -> Finding
+pub(crate) fn request_fault(b: &[u8], k: u8, requests: usize) -> Finding
     requires { ⌜ (length (now b) ≡ 19) × (k ≤ 4) ⌝ }
     ensures { λ r. ⌜ findingNumber r ≡ orElse (unless (ltb requests 256) 9) (unless (requestFits k (requestIn (now (b .entry)))) 7) ⌝ }
 {

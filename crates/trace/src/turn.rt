@@ -1,7 +1,9 @@
-// One turn of the check: a record, or a run of acts.
+// One turn of the check: a record, or a run of requests or of acts.
+ghost use mathlib.Core.Path.{_≡_};
 ghost use Prim.Native.Nat.{_+_, _≤_};
 ghost use lib.ListN.{length};
-ghost use Rattle.trace.specs.Loop.{Inside, TurnRight, Passed, DrainsPassed, FourDrains, Onward};
+ghost use Rattle.store.specs.Layout.{size as machineSize};
+ghost use Rattle.trace.specs.Loop.{Inside, TurnRight, RequestsPassed, RequestsOnward, Passed, DrainsPassed, FourDrains, Onward};
 use crate::Fault;
 use crate::acts::DRAIN_SIZE;
 use crate::acts::EVENT_SIZE;
@@ -12,11 +14,13 @@ use crate::masked::is_event;
 use crate::masked::steps_of;
 use crate::progress::Progress;
 use crate::progress::noted;
+use crate::progress::put_request;
 use crate::reader::head_due;
 use crate::record::Head;
 use crate::record::body;
 use crate::rules::Finding;
 use crate::rules::record_fault;
+use crate::rules::request_fault;
 use store::Machine;
 
 pub enum Turn {
@@ -50,6 +54,55 @@ pub fn one_turn(
             }
         }
     }
+}
+
+// A request's header, length and kind, as the one number that its four bytes spell.
+const REQUEST_HEADER: u64 = 19 + 65536 * 3;
+
+const REQUEST_SIZE: usize = 23;
+
+// How many requests that are not refused stand one behind another where the check has come to; they go into the machine.
+fn requests_from(s: &[u8], p: Progress, m: &mut Machine) -> usize
+    requires { ⌜ (p .at ≤ length (now s)) × (length (now s) ≤ 65536) × (p .k ≤ 4) × (p .requests ≤ 256) × (length (now m) ≡ machineSize) ⌝ }
+    ensures { λ r. ⌜ RequestsPassed (now (s .entry)) p r (now (m .entry)) (now (m .exit)) ⌝ }
+{
+    let mut n = 0;
+    loop {
+        let at = p.at + REQUEST_SIZE * n;
+        if s.len() - at < REQUEST_SIZE {
+            return n;
+        }
+        if number4(s, at) != REQUEST_HEADER {
+            return n;
+        }
+        let b = body(s, at, 19);
+        let t = p.requests + n;
+        let finding = request_fault(b, p.k, t);
+        match finding {
+            Finding::Clean => {
+                put_request(b, p.k, t, m);
+                n += 1;
+            }
+            Finding::Faulty(_) => {
+                return n;
+            }
+        }
+    }
+}
+
+// Past the requests that are not refused, behind the first: like the acts, they take the short way.
+pub fn past_requests(s: &[u8], mut p: Progress, m: &mut Machine) -> Progress
+    requires { ⌜ (p .at ≤ length (now s)) × (length (now s) ≤ 65536) × (p .k ≤ 4) × (p .requests ≤ 256) × (length (now m) ≡ machineSize) ⌝ }
+    requires { ⌜ p .«acts_at» ≤ p .at ⌝ }
+    ensures { λ r. ⌜ RequestsOnward (now (s .entry)) p (now (m .entry)) r (now (m .exit)) ⌝ }
+{
+    if p.section == 3 {
+        let n = requests_from(s, p, m);
+        p.at = p.at + REQUEST_SIZE * n;
+        p.requests = p.requests + n;
+        p.acts_at = p.acts_at + REQUEST_SIZE * n;
+    }
+    p
 }
 
 // A drain's header, length and kind, as the one number that its four bytes spell.

@@ -43,15 +43,22 @@ returns-3 c = loaded-fail (c .before .t .given .0 .0) (rw (c .before .t .given .
 enum-known-t-2 : tie.Need-enum-known-t-2 Inv-loop μ-loop
 enum-known-t-2 c = search needs
 
+past-requests-requires : tie.Need-past-requests-requires Inv-loop μ-loop
+past-requests-requires c κs = let i = rw (c .before .before .t2 .given .1) at (c .before .before .before .before .one-turn .ensures) .1 in
+    ((i .at-inside, i .short, i .so-far .known .k-low, i .room .requests-low, i .so-far .loaded .sized), i .room .acts-at-low)
+
 past-acts-requires : tie.Need-past-acts-requires Inv-loop μ-loop
-past-acts-requires c κs = let i = rw (c .before .t2 .given .1) at (c .before .before .before .one-turn .ensures) .1 in (i .at-inside, i .short, i .so-far .known .k-low)
+past-acts-requires c κs = let r = rw (c .before .before .before .t2 .given .1) at (c .before .before .before .before .before .one-turn .ensures) in
+    let i = c .past-requests .ensures .inside _ _ (r .1) in (i .at-inside, i .short, i .so-far .known .k-low)
 
 loop-less : tie.Need-loop-less Inv-loop μ-loop
-loop-less c = let r = rw (c .before .before .t2 .given .1) at (c .before .before .before .before .one-turn .ensures) in let o = c .past-acts .ensures in
-    omega (arith, r .0, o .onward, o .inside _ _ _ (r .1) .at-inside)
+loop-less c = let r = rw (c .before .before .before .before .t2 .given .1) at (c .before .before .before .before .before .before .one-turn .ensures) in
+    let q = c .before .past-requests .ensures in let o = c .past-acts .ensures in
+    omega (arith, r .0, q .onward, o .onward, o .inside _ _ _ (q .inside _ _ (r .1)) .at-inside)
 
 loop-again : tie.Need-loop-again Inv-loop μ-loop
-loop-again c = let r = rw (c .before .before .t2 .given .1) at (c .before .before .before .before .one-turn .ensures) in c .past-acts .ensures .inside _ _ _ (r .1)
+loop-again c = let r = rw (c .before .before .before .before .t2 .given .1) at (c .before .before .before .before .before .before .one-turn .ensures) in
+    c .past-acts .ensures .inside _ _ _ (c .before .past-requests .ensures .inside _ _ (r .1))
 
 pub load-spec : {M : Type 1} → statement M
 load-spec =
@@ -69,6 +76,7 @@ load-spec =
     enum-known-t
     returns-3
     enum-known-t-2
+    past-requests-requires
     past-acts-requires
     loop-less
     loop-again)
