@@ -11,7 +11,13 @@ pub fn from_start(trace: &[u8], facts: Facts, m: &mut Machine, words: &mut [u64;
     ensures { λ _. ⌜ RanTo (itemsIn (now (trace .entry))) (now (m .exit)) (now (words .exit)) ⌝ }
 {
     let at = facts.acts_at;
-    start::start(m, facts.k as u64, facts.q as u64, facts.w as u64, facts.requests);
+    start::start(
+        m,
+        facts.k as u64,
+        facts.q as u64,
+        facts.w as u64,
+        facts.requests,
+    );
     acts_from(trace, at, m, words);
 }
 

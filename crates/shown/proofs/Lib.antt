@@ -18,4 +18,5 @@ pub mod Returning
 pub mod Arrivals
 pub mod Forwards
 pub mod Issues
+pub mod Below
 pub mod Answered

@@ -1,4 +1,27 @@
+-- `counts_of` meets its contract: each count is the machine's.
+use borrow.Author.Needs.{needs}
 use Rattle.model.proofs.counts_of.Statement.{statement}
+use Rattle.model.proofs.counts_of.Tie as tie
+
+ordered-requires : tie.Need-ordered-requires
+ordered-requires c κs = search needs
+
+accesses-requires : tie.Need-accesses-requires
+accesses-requires c κs = search needs
+
+merges-requires : tie.Need-merges-requires
+merges-requires c κs = search needs
+
+rounds-requires : tie.Need-rounds-requires
+rounds-requires c κs = search needs
+
+returns : tie.Need-returns
+returns c = λ i. record {
+  ordered = c .before .before .before .ordered .ensures i;
+  accesses = c .before .before .accesses .ensures i;
+  merges = c .before .merges .ensures i;
+  rounds = c .rounds .ensures i;
+}
 
 pub counts-of-spec : {M : Type 1} → statement M
-counts-of-spec = ?
+counts-of-spec = tie.close (tie.spec ordered-requires accesses-requires merges-requires rounds-requires returns)

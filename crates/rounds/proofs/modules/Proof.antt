@@ -2,28 +2,24 @@
 use Prim.Native.Nat.{_-_}
 use native.Mathlib.Omega.{arith}
 use borrow.Author.Needs.{needs}
-use Rattle.rounds.proofs.Rows.{Served, levels-within, row-level, row-width, served-begins, served-ready, served-full, served-ends, served-rests, served-goes}
+use Rattle.rounds.proofs.Rows.{Served, row-level, served-begins, served-ready, served-full, served-ends, served-rests, served-goes}
 use Rattle.rounds.proofs.modules.Statement.{statement}
 use Rattle.rounds.proofs.modules.Tie as tie
 
 abbrev Inv-loop : tie.InvT-loop
-Inv-loop m₀ words₀ k n p₀ m words p = Served k m₀ words₀ m words n p
+Inv-loop m₀ words₀ k p₀ m words p = Served k m₀ words₀ m words p
 
 abbrev μ-loop : tie.MeasureT-loop
-μ-loop m₀ words₀ k n p₀ m words p = n - p
+μ-loop m₀ words₀ k p₀ m words p = 16 - p
 
 levels-requires : tie.Need-levels-requires Inv-loop μ-loop
 levels-requires c κs = search needs
 
-width-requires : tie.Need-width-requires Inv-loop μ-loop
-width-requires c κs = omega (arith, c .levels .ensures, levels-within (c .before .before .pre .stands) .1)
-
 loop-holds : tie.Need-loop-holds Inv-loop μ-loop
-loop-holds c = served-begins (c .before .levels .ensures) (rw (c .before .levels .ensures) at (c .width .ensures .0)) (c .before .before .before .pre)
+loop-holds c = served-begins (c .levels .ensures) (c .before .before .pre)
 
 next-request-requires : tie.Need-next-request-requires Inv-loop μ-loop
-next-request-requires c κs = let A = c .before .before .loop .inv .row in
-    (row-level A, omega (arith, c .before .loop-test .taken, row-width A))
+next-request-requires c κs = (row-level (c .before .before .loop .inv .row), c .before .loop-test .taken)
 
 returns : tie.Need-returns Inv-loop μ-loop
 returns c = served-rests (c .before .before .before .before .loop .inv) (c .before .next-request .ensures) (c .if1 .taken)
@@ -52,7 +48,6 @@ modules-spec =
     Inv-loop
     μ-loop
     levels-requires
-    width-requires
     loop-holds
     next-request-requires
     returns

@@ -3,36 +3,28 @@ use Prim.Native.Nat.{_-_}
 use native.Mathlib.Omega.{arith}
 use borrow.Author.Needs.{needs}
 use Rattle.shown.proofs.Levels.{returns-fit}
-use Rattle.rounds.proofs.Rows.{Alone, levels-within, row-same, row-level, row-width, row-full, alone-begins, alone-ready, alone-ends, alone-rests, alone-goes}
+use Rattle.rounds.proofs.Rows.{Alone, row-same, row-level, row-full, alone-begins, alone-ready, alone-ends, alone-rests, alone-goes}
 use Rattle.rounds.proofs.returns.Statement.{statement}
 use Rattle.rounds.proofs.returns.Tie as tie
 
 abbrev Inv-loop : tie.InvT-loop
-Inv-loop m₀ level n p₀ m p = Alone 3 level m₀ m n p
+Inv-loop m₀ level p₀ m p = Alone 3 level m₀ m p
 
 abbrev μ-loop : tie.MeasureT-loop
-μ-loop m₀ level n p₀ m p = n - p
-
-levels-requires : tie.Need-levels-requires Inv-loop μ-loop
-levels-requires c κs = search needs
-
-width-requires : tie.Need-width-requires Inv-loop μ-loop
-width-requires c κs = omega (arith, c .levels .ensures, levels-within (c .before .before .pre .0 .stands) .1)
+μ-loop m₀ level p₀ m p = 16 - p
 
 loop-holds : tie.Need-loop-holds Inv-loop μ-loop
-loop-holds c = let s = c .before .before .before in
-    alone-begins (returns-fit _ (s .args .level) (s .pre .1 .0) (s .pre .1 .1)) (rw (c .before .levels .ensures) at (c .width .ensures .0)) (s .pre .0)
+loop-holds c = alone-begins (returns-fit _ (c .args .level) (c .pre .1 .0) (c .pre .1 .1)) (c .pre .0)
 
 next-reply-requires : tie.Need-next-reply-requires Inv-loop μ-loop
-next-reply-requires c κs = let A = c .before .before .loop .inv in
-    (row-level A, omega (arith, c .before .loop-test .taken, row-width A))
+next-reply-requires c κs = (row-level (c .before .before .loop .inv), c .before .loop-test .taken)
 
 returns : tie.Need-returns Inv-loop μ-loop
 returns c = alone-rests (c .before .before .before .before .loop .inv) (c .before .next-reply .ensures) (c .if1 .taken)
 
 return-step-requires : tie.Need-return-step-requires Inv-loop μ-loop
 return-step-requires c κs = let A = c .before .before .before .before .before .loop .inv in
-    let l = c .before .before .before .before .before .before .before .before .before .pre .1 in
+    let l = c .before .before .before .before .before .before .pre .1 in
     let f = row-full A (c .before .before .next-reply .ensures) (c .before .if1 .left) in
     (alone-ready A, ((l .0, omega (arith, l .1, row-same A), f .0), f .1))
 
@@ -55,8 +47,6 @@ returns-spec =
     (tie.spec
     Inv-loop
     μ-loop
-    levels-requires
-    width-requires
     loop-holds
     next-reply-requires
     returns

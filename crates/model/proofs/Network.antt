@@ -1,0 +1,54 @@
+-- What the ranges of an accepted trace say of its network and of its acts.
+use Prim.Native.Nat.{ℕ, zero, suc, _<_, _^_}
+use mathlib.Core.List.{List, [], _∷_}
+use native.Mathlib.Omega.{arith}
+use lib.Dec.{ltb}
+use lib.Pow.{pow-pos}
+use Rattle.lists.specs.Search.{All, cons}
+use Rattle.lists.proofs.Every.{all-map}
+use Rattle.event.specs.Event.{Act, namesStep, levelFits}
+use Rattle.machine.specs.Order.{Named}
+use Rattle.machine.specs.Lawful.{Lawful}
+use Rattle.shown.specs.Network.{Ranges}
+use Rattle.shown.proofs.Reaching.{ranges-lawful}
+use Rattle.trace.specs.Item.{Request, Items}
+use Rattle.trace.specs.Contents.{shapeOf, requestsOf, actsOf}
+use Rattle.trace.specs.Machine.{requestAt}
+use Rattle.trace.specs.Ranges.{RequestIn, ActIn, InRange}
+use Rattle.trace.proofs.Tests.{both-true}
+use Rattle.model.specs.Result.{setupOf}
+use Rattle.model.specs.Run.{networkOf}
+
+engines-below : (k : ℕ) (rs : List Request) → All (RequestIn k) rs → (t : ℕ) → requestAt rs t .engine < 2 ^ k
+engines-below k [] h t = pow-pos k
+engines-below k (r ∷ rs) (cons h hs) zero = h .engine-below
+engines-below k (r ∷ rs) (cons h hs) (suc t) = engines-below k rs hs t
+
+addresses-below : (k : ℕ) (rs : List Request) → All (RequestIn k) rs → (t : ℕ) → requestAt rs t .address < 256
+addresses-below k [] h t = omega arith
+addresses-below k (r ∷ rs) (cons h hs) zero = h .fits .address-low
+addresses-below k (r ∷ rs) (cons h hs) (suc t) = addresses-below k rs hs t
+
+pub act-named : (k : ℕ) (a : Act) → ActIn k a → Named k a
+unfolding namesStep
+act-named k (Act.event e) h = both-true (ltb (e .position) (2 ^ k)) (levelFits k (e .what) (e .level)) (h .names) .1
+act-named k (Act.drain n) h = tt
+
+module _ (items : Items) (within : InRange items) where
+  pub network-ranges : Ranges (networkOf items)
+  network-ranges = record {
+    k-least = within .shape-in .k-least;
+    k-most = within .shape-in .k-most;
+    Q-least = within .shape-in .q-least;
+    Q-most = within .shape-in .q-most;
+    W-most = within .shape-in .w-most;
+    R-most = within .requests-few;
+    engines = engines-below (shapeOf items .k) (requestsOf items) (within .requests-in);
+    addresses = addresses-below (shapeOf items .k) (requestsOf items) (within .requests-in);
+  }
+
+  pub trace-lawful : Lawful (setupOf items)
+  trace-lawful = ranges-lawful {x = networkOf items} network-ranges
+
+  pub acts-named : All (Named (shapeOf items .k)) (actsOf items)
+  acts-named = all-map (act-named (shapeOf items .k)) (within .acts-in)

@@ -1,0 +1,146 @@
+-- What the machine and the words hold at the end of a run is what the defined run gives, and so is what is copied from them.
+use Prim.Native.Nat.{ℕ, _≤_}
+use mathlib.Core.Path.{_≡_, refl, sym, _∙_, ap, subst}
+use mathlib.Core.Bool.{Bool, true, false}
+use mathlib.Core.List.{List}
+use mathlib.Core.Option.{none, some}
+use native.Mathlib.Omega.{arith}
+use lib.ListN.{length}
+use lib.Dec.{leb}
+use borrow.Author.Tests.{leb-true}
+use Rattle.lists.specs.Choice.{choose}
+use Rattle.lists.specs.Table.{listBelow}
+use Rattle.lists.proofs.Below.{below-is, below-same}
+use Rattle.machine.specs.Run.{Ran}
+use Rattle.view.specs.View.{View}
+use Rattle.shown.specs.Network.{Network, setup}
+use Rattle.shown.specs.Shown.{answerOf, shown}
+use Rattle.shown.specs.Reached.{shownRun}
+use Rattle.store.specs.Memory.{view}
+use Rattle.moves.specs.Moves.{wordsIn}
+use Rattle.trace.specs.Item.{Items}
+use Rattle.trace.specs.Contents.{requestsOf}
+use Rattle.trace.proofs.Tests.{both-true}
+use Rattle.results.specs.Copied.{over, valuesIn, marksIn}
+use Rattle.model.specs.Result.{valueOf, markOf, Results, resultsOf, Lent, lent, roomFor, memoryAfter}
+use Rattle.model.specs.Promise.{counted}
+use Rattle.model.specs.Run.{networkOf, RanTo, countsIn, MayGive, Gives, Leaves}
+use Rattle.model.specs.declared.Counts.{Counts}
+
+-- ---- what a run gives, and what a view and words give
+abbrev givenBy : (x : Network) → Ran (setup x) → Results
+givenBy x r = record {
+  replies = listBelow (x .R) (λ t. valueOf (r .state .answers t));
+  marks = listBelow (x .R) (λ t. markOf (r .state .answers t));
+  order = r .state .order;
+  words = listBelow 256 (r .state .words);
+  accesses = r .state .accesses;
+  merges = r .state .merges;
+  rounds = r .rounds;
+}
+
+abbrev pub resultsIn : ℕ → View → List ℕ → Results
+resultsIn n v words = record {
+  replies = valuesIn v n;
+  marks = marksIn v n;
+  order = v .order;
+  words = words;
+  accesses = v .accesses;
+  merges = v .merges;
+  rounds = v .rounds;
+}
+
+value-chosen : (b : Bool) (value : ℕ) → choose b value 0 ≡ valueOf (choose b (some value) none)
+value-chosen true value = refl
+value-chosen false value = refl
+
+mark-chosen : (b : Bool) (value : ℕ) → choose b 1 0 ≡ markOf (choose b (some value) none)
+mark-chosen true value = refl
+mark-chosen false value = refl
+
+module _ (x : Network) (v : View) (words : List ℕ) (sized : length words ≡ 256) where
+  values-are : valuesIn v (x .R) ≡ listBelow (x .R) (λ t. valueOf (answerOf x v t))
+  values-are = below-same (x .R) _ _ (λ t l. value-chosen (v .answered t) (v .carried t .first))
+
+  marks-are : marksIn v (x .R) ≡ listBelow (x .R) (λ t. markOf (answerOf x v t))
+  marks-are = below-same (x .R) _ _ (λ t l. mark-chosen (v .answered t) (v .carried t .first))
+
+  words-are : words ≡ listBelow 256 (wordsIn words)
+  words-are = below-is 0 256 (wordsIn words) words sized (λ a l. refl)
+
+  shown-gives : resultsIn (x .R) v words ≡ givenBy x (shownRun x v (wordsIn words))
+  unfolding shown
+  shown-gives = λ i. record {
+    replies = values-are i;
+    marks = marks-are i;
+    order = v .order;
+    words = words-are i;
+    accesses = v .accesses;
+    merges = v .merges;
+    rounds = v .rounds;
+  }
+
+-- ---- of a whole run
+module _ {items : Items} {m memory : List ℕ} (r : RanTo items m memory) where
+  pub results-are : resultsIn (length (requestsOf items)) (view m) memory ≡ resultsOf items
+  unfolding resultsOf
+  results-are = shown-gives (networkOf items) (view m) memory (r .words-sized) ∙ ap (givenBy (networkOf items)) (r .shows)
+
+  pub may-give : (before : Lent) → roomFor (length (requestsOf items)) before ≡ true → MayGive m memory before
+  may-give before room = record {
+    memory-sized = r .words-sized;
+    requests-few = omega (arith, r .count-is, r .requests-few);
+    order-few = omega (arith, r .count-is, r .order-few);
+    room = subst (λ (n : ℕ). roomFor n before ≡ true) (sym (r .count-is)) room;
+  }
+
+  pub gives-leaves : (before : Lent) {c : Counts} {after : Lent} → Gives m memory before c after → Leaves (resultsOf items) before c after
+  unfolding memoryAfter
+  gives-leaves before {c} {after} g =
+      let replies-are = g .replies-are ∙ ap (λ (n : ℕ). over (valuesIn (view m) n) (before .replies)) (r .count-is) in
+      let marks-are = g .marks-are ∙ ap (λ (n : ℕ). over (marksIn (view m) n) (before .marks)) (r .count-is) in
+      let left : Leaves (resultsIn (length (requestsOf items)) (view m) memory) before c after =
+      record {
+        counts-are = ap (λ (c : Counts). counted (c .ordered) (c .accesses) (c .merges) (c .rounds)) (g .counts-are);
+        memory-is = λ i. lent (replies-are i) (marks-are i) (g .order-is i) (g .words-are i);
+      } in
+      subst (λ (o : Results). Leaves o before c after) results-are left
+
+-- ---- what is copied
+pub room-parts : (n : ℕ) (m : Lent) → roomFor n m ≡ true → (n ≤ length (m .replies)) × (n ≤ length (m .marks)) × (n ≤ length (m .order)) × (256 ≤ length (m .words))
+unfolding roomFor
+room-parts n m h =
+    let a = both-true (leb n (length (m .replies))) _ h in
+    let b = both-true (leb n (length (m .marks))) _ (a .1) in
+    let d = both-true (leb n (length (m .order))) _ (b .1) in
+    (leb-true n (length (m .replies)) (a .0), leb-true n (length (m .marks)) (b .0), leb-true n (length (m .order)) (d .0), leb-true 256 (length (m .words)) (d .1))
+
+-- each of the four fits: the first two in the number of requests that the machine tells
+module _ {m memory : List ℕ} {before : Lent} (g : MayGive m memory before) where
+  room : (view m .fixed .count ≤ length (before .replies)) × (view m .fixed .count ≤ length (before .marks)) × (view m .fixed .count ≤ length (before .order))
+      × (256 ≤ length (before .words))
+  room = room-parts (view m .fixed .count) before (g .room)
+
+  pub values-fit : {n : ℕ} → n ≡ view m .fixed .count → (n ≤ 256) × (n ≤ length (before .replies))
+  values-fit e = (omega (arith, e, g .requests-few), omega (arith, e, room .0))
+
+  pub marks-fit : {n : ℕ} → n ≡ view m .fixed .count → (n ≤ 256) × (n ≤ length (before .marks))
+  marks-fit e = (omega (arith, e, g .requests-few), omega (arith, e, room .1))
+
+  pub order-fits : (length (view m .order) ≤ 256) × (length (view m .order) ≤ length (before .order))
+  order-fits = (omega (arith, g .order-few, g .requests-few), omega (arith, g .order-few, room .2))
+
+  pub words-fit : (length memory ≡ 256) × (256 ≤ length (before .words))
+  words-fit = (g .memory-sized, room .3)
+
+-- all four
+pub copied : {m memory : List ℕ} {before : Lent} {n : ℕ} {c : Counts} {replies marks order words : List ℕ} → n ≡ view m .fixed .count → c ≡ countsIn (view m) →
+    replies ≡ over (valuesIn (view m) n) (before .replies) → marks ≡ over (marksIn (view m) n) (before .marks) → order ≡ over (view m .order) (before .order) →
+    words ≡ over memory (before .words) → Gives m memory before c (lent replies marks order words)
+copied {m} {before = before} e counts r k o w = record {
+  counts-are = counts;
+  replies-are = r ∙ ap (λ (n : ℕ). over (valuesIn (view m) n) (before .replies)) e;
+  marks-are = k ∙ ap (λ (n : ℕ). over (marksIn (view m) n) (before .marks)) e;
+  order-is = o;
+  words-are = w;
+}
