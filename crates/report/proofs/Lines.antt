@@ -1,38 +1,60 @@
--- A section of a report looks only at the places below its count, so lists that agree there give the same text.
-use Prim.Native.Nat.{ℕ, zero, suc, _+_, _≤_, _<_}
-use mathlib.Core.Path.{_≡_, refl, sym, _∙_, ap, ap₂}
+-- The sections of a report as they are written. A section looks only at the places below its count, so a list that was copied over the
+-- front of an array gives the same lines as the list itself.
+use Prim.Native.Nat.{ℕ, zero, suc, _+_, _*_, _≤_, _<_}
+use mathlib.Core.Path.{_≡_, refl, sym, _∙_, ap, ap₂, subst}
 use mathlib.Core.List.{List, [], _∷_, _++_}
 use native.Mathlib.Numerals.{add-one}
 use native.Mathlib.Omega.{arith}
-use lib.ListN.{length, getD}
-use Rattle.text.specs.Text.{replyLine, orderLine, wordLine, replyLines, orderLines, wordLines, countLines, acceptedText}
-use Rattle.text.proofs.Sections.{Section, replies, orders, addresses}
+use lib.ListN.{length, getD, drop, replicate, List·getD-append}
+use Rattle.lists.proofs.Below.{length-below}
+use Rattle.text.specs.Text.{replyLine, orderLine, replyLines, orderLines, wordLines, countLines, acceptedText}
+use Rattle.text.specs.Written.{Wrote, Reported as Printed, lineRoom}
+use Rattle.text.proofs.Written.{wrote-then, wrote-reported}
+use Rattle.text.proofs.Sections.{Section, replies, orders}
+use Rattle.view.specs.View.{View}
+use Rattle.results.specs.Copied.{over, valueIn, valuesIn, markIn, marksIn}
+use Rattle.report.specs.Lines.{Printable, repliesIn, ordersIn, textIn}
 
-pub section-same : {lines line lines′ line′ : ℕ → List ℕ} → Section lines line → Section lines′ line′ → (n : ℕ) → ((i : ℕ) → i < n → line i ≡ line′ i) → lines n ≡ lines′ n
+section-same : {lines line lines′ line′ : ℕ → List ℕ} → Section lines line → Section lines′ line′ → (n : ℕ) → ((i : ℕ) → i < n → line i ≡ line′ i) → lines n ≡ lines′ n
 section-same s t zero h = s .none ∙ sym (t .none)
 section-same {lines} {line} {lines′} {line′} s t (suc n) h =
     ap lines (sym (add-one n)) ∙ s .more n
     ∙ ap₂ (λ (l m : List ℕ). l ++ m) (section-same s t n (λ i l. h i (omega arith))) (h n (omega arith))
     ∙ sym (t .more n) ∙ ap lines′ (add-one n)
 
--- two lists agree below n
-pub record Same (n : ℕ) (l m : List ℕ) : Type 0 where
-  pub agree : (i : ℕ) → i < n → getD l i 0 ≡ getD m i 0
+over-at : (new old : List ℕ) (i : ℕ) → i < length new → getD (over new old) i 0 ≡ getD new i 0
+over-at new old i l = List·getD-append new (drop (length new) old) 0 i l
 
-pub replyLines-same : (n : ℕ) {values values′ marks marks′ : List ℕ} → Same n values values′ → Same n marks marks′ → replyLines n values marks ≡ replyLines n values′ marks′
-replyLines-same n {values} {values′} {marks} {marks′} v m =
-    section-same (replies values marks) (replies values′ marks′) n (λ i l. ap₂ (replyLine i) (v .agree i l) (m .agree i l))
+replies-over : (n : ℕ) (values marks old old′ : List ℕ) → length values ≡ n → length marks ≡ n → replyLines n (over values old) (over marks old′) ≡ replyLines n values marks
+replies-over n values marks old old′ v m =
+    section-same (replies (over values old) (over marks old′)) (replies values marks) n
+    (λ i l. ap₂ (replyLine i) (over-at values old i (omega arith)) (over-at marks old′ i (omega arith)))
 
-pub orderLines-same : (n : ℕ) {order order′ : List ℕ} → Same n order order′ → orderLines n order ≡ orderLines n order′
-orderLines-same n {order} {order′} o = section-same (orders order) (orders order′) n (λ i l. ap orderLine (o .agree i l))
+orders-over : (order old : List ℕ) → orderLines (length order) (over order old) ≡ orderLines (length order) order
+orders-over order old = section-same (orders (over order old)) (orders order) (length order) (λ i l. ap orderLine (over-at order old i l))
 
-pub wordLines-same : (n : ℕ) {words words′ named named′ : List ℕ} → Same n words words′ → Same n named named′ → wordLines n words named ≡ wordLines n words′ named′
-wordLines-same n {words} {words′} {named} {named′} w m =
-    section-same (addresses words named) (addresses words′ named′) n (λ i l. ap₂ (wordLine i) (w .agree i l) (m .agree i l))
+-- ---- from the arrays that were filled
+module _ (v : View) (fits : Printable v) where
+  pub wrote-replies : {before after values marks : List ℕ} {n r : ℕ} → n ≡ v .fixed .count → values ≡ over (valuesIn v n) (replicate 256 0) → marks ≡ over (marksIn v n) (replicate 256 0) →
+      Wrote before 0 (replyLines n values marks) after r × (r ≤ 0 + lineRoom * n) →
+      Wrote before 0 (repliesIn v) after r × (r ≤ lineRoom * 256)
+  wrote-replies {before} {after} {values} {marks} {n} {r} e values-are marks-are w =
+      let front : replyLines n values marks ≡ replyLines n (valuesIn v n) (marksIn v n) =
+      ap₂ (replyLines n) values-are marks-are ∙ replies-over n (valuesIn v n) (marksIn v n) (replicate 256 0) (replicate 256 0) (length-below n (valueIn v)) (length-below n (markIn v)) in
+      (subst (λ (l : List ℕ). Wrote before 0 l after r) (front ∙ ap (λ (k : ℕ). replyLines k (valuesIn v k) (marksIn v k)) e) (w .0), omega (arith, w .1, e, fits .requests-few))
 
-pub acceptedText-same : (R : ℕ) {values values′ marks marks′ : List ℕ} (n : ℕ) {order order′ words words′ named named′ : List ℕ} (accesses merges rounds : ℕ)
-    → Same R values values′ → Same R marks marks′ → Same n order order′ → Same 256 words words′ → Same 256 named named′
-    → acceptedText R values marks n order words named accesses merges rounds ≡ acceptedText R values′ marks′ n order′ words′ named′ accesses merges rounds
+  pub wrote-orders : {before after order : List ℕ} {at n r : ℕ} → n ≡ length (v .order) → order ≡ over (v .order) (replicate 256 0) →
+      Wrote before at (orderLines n order) after r × (r ≤ at + lineRoom * n) →
+      Wrote before at (ordersIn v) after r × (r ≤ at + lineRoom * 256)
+  wrote-orders {before} {after} {order} {at} {n} {r} e order-is w =
+      (subst (λ (l : List ℕ). Wrote before at l after r) (ap₂ orderLines e order-is ∙ orders-over (v .order) (replicate 256 0)) (w .0), omega (arith, w .1, e, fits .order-few))
+
+-- ---- one behind another
+pub printed-sections : (v : View) (words named : List ℕ) {before one two three after : List ℕ} {a b d r accesses merges rounds : ℕ} →
+    Wrote before 0 (repliesIn v) one a → Wrote one a (ordersIn v) two b → Wrote two b (wordLines 256 words named) three d →
+    accesses ≡ v .accesses → merges ≡ v .merges → rounds ≡ v .rounds → Wrote three d (countLines accesses merges rounds) after r →
+    r ≤ length before → Printed (textIn v words named) before after r
 unfolding acceptedText
-acceptedText-same R n accesses merges rounds v m o w d =
-    rw (replyLines-same R v m, orderLines-same n o, wordLines-same 256 w d)
+printed-sections v words named {three = three} {after = after} {d = d} {r = r} first second third accesses-are merges-are rounds-are last room =
+    let counts : Wrote three d (countLines (v .accesses) (v .merges) (v .rounds)) after r = rw (← accesses-are, ← merges-are, ← rounds-are) last in
+    wrote-reported (wrote-then (wrote-then (wrote-then first second) third) counts) room

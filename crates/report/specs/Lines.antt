@@ -3,7 +3,7 @@
 use Prim.Native.Nat.{ℕ, _≤_}
 use mathlib.Core.List.{List}
 use lib.ListN.{length}
-use Rattle.text.specs.Text.{acceptedText}
+use Rattle.text.specs.Text.{replyLines, orderLines, acceptedText}
 use Rattle.view.specs.View.{View}
 use Rattle.results.specs.Copied.{valuesIn, marksIn}
 
@@ -12,6 +12,14 @@ pub record Printable (v : View) : Type 0 where
   pub requests-few : v .fixed .count ≤ 256
   pub order-few : length (v .order) ≤ 256
 
+-- the lines of its replies, and of its order list
+abbrev pub repliesIn : View → List ℕ
+repliesIn v = replyLines (v .fixed .count) (valuesIn v (v .fixed .count)) (marksIn v (v .fixed .count))
+
+abbrev pub ordersIn : View → List ℕ
+ordersIn v = orderLines (length (v .order)) (v .order)
+
+-- and the whole text
 abbrev pub textIn : View → List ℕ → List ℕ → List ℕ
 textIn v words named =
     acceptedText (v .fixed .count) (valuesIn v (v .fixed .count)) (marksIn v (v .fixed .count)) (length (v .order)) (v .order) words named (v .accesses) (v .merges) (v .rounds)

@@ -6,13 +6,11 @@ use trace::Answer;
 ghost use mathlib.Core.Path.{_≡_};
 ghost use Prim.Native.Nat.{_+_, _*_, _≤_};
 ghost use lib.ListN.{length};
-ghost use Rattle.text.specs.Text.{replyLines, orderLines};
 ghost use Rattle.text.specs.Written.{Wrote, Reported as Printed, lineRoom, reportRoom};
 ghost use Rattle.store.specs.Memory.{view};
-ghost use Rattle.results.specs.Copied.{valuesIn, marksIn};
 ghost use Rattle.model.specs.Report.{report as text};
 ghost use Rattle.report.specs.Names.{Marked};
-ghost use Rattle.report.specs.Lines.{Printable, textIn};
+ghost use Rattle.report.specs.Lines.{Printable, repliesIn, ordersIn, textIn};
 ghost use Rattle.report.specs.Written.{Reported};
 
 // Whether the buffer has room for every report, and the length of the report.
@@ -74,19 +72,16 @@ fn put_results(m: &Machine, memory: &[u64; 256], named: &[u8; 256], out: &mut [u
     let orders = put_replies(m, out);
     let addresses = put_orders(m, out, orders);
     let counts = text::put_words(out, addresses, memory, named);
-    text::put_counts(
-        out,
-        counts,
-        shape::accesses(m),
-        shape::merges(m),
-        shape::rounds(m),
-    )
+    let accesses = shape::accesses(m);
+    let merges = shape::merges(m);
+    let rounds = shape::rounds(m);
+    text::put_counts(out, counts, accesses, merges, rounds)
 }
 
 fn put_replies(m: &Machine, out: &mut [u8]) -> usize
     requires { ⌜ Printable (view (now m)) ⌝ }
     requires { ⌜ reportRoom ≤ length (now out) ⌝ }
-    ensures { λ r. ⌜ Wrote (now (out .entry)) 0 (replyLines (view (now (m .entry)) .fixed .count) (valuesIn (view (now (m .entry))) (view (now (m .entry)) .fixed .count)) (marksIn (view (now (m .entry))) (view (now (m .entry)) .fixed .count))) (now (out .exit)) r × (r ≤ lineRoom * 256) ⌝ }
+    ensures { λ r. ⌜ Wrote (now (out .entry)) 0 (repliesIn (view (now (m .entry)))) (now (out .exit)) r × (r ≤ lineRoom * 256) ⌝ }
 {
     let n = shape::requests_in(m);
     let mut replies = [0u64; 256];
@@ -99,7 +94,7 @@ fn put_replies(m: &Machine, out: &mut [u8]) -> usize
 fn put_orders(m: &Machine, out: &mut [u8], at: usize) -> usize
     requires { ⌜ Printable (view (now m)) ⌝ }
     requires { ⌜ at + lineRoom * 256 ≤ length (now out) ⌝ }
-    ensures { λ r. ⌜ Wrote (now (out .entry)) at (orderLines (length (view (now (m .entry)) .order)) (view (now (m .entry)) .order)) (now (out .exit)) r × (r ≤ at + lineRoom * 256) ⌝ }
+    ensures { λ r. ⌜ Wrote (now (out .entry)) at (ordersIn (view (now (m .entry)))) (now (out .exit)) r × (r ≤ at + lineRoom * 256) ⌝ }
 {
     let n = shape::ordered(m);
     let mut order = [0u64; 256];

@@ -198,6 +198,7 @@ onward-run s p end passed section-is = record {
         so-far = record {
           before = r .all;
           known = known-same (r .same) (so .known) (omega (arith, r .size-is, so .known .at-is)) (section-is ∙ sym (r .last-is)) refl refl refl refl refl;
+          marks-sized = so .marks-sized;
           loaded = loaded-same (r .same) (so .loaded);
           verdict = so .verdict ∙ r .verdict;
         };

@@ -53,7 +53,7 @@ decide-some (suc n) before rest h = refl
 -- another outcome of the same items
 decided-as : {s : List ℕ} {p : Progress} {marks words m : List ℕ} {outcome other : Items → Verdict} (r : Decided s p marks words m outcome) →
     outcome (r .before) ≡ other (r .before) → Decided s p marks words m other
-decided-as r e = record { before = r .before; known = r .known; loaded = r .loaded; verdict = r .verdict ∙ e }
+decided-as r e = record { before = r .before; known = r .known; marks-sized = r .marks-sized; loaded = r .loaded; verdict = r .verdict ∙ e }
 
 module _ {s : List ℕ} {p : Progress} {marks words m : List ℕ} (i : Inside s p marks words m) where
   pub turn-stop : split (drop (p .at) s) ≡ nothing → TurnRight s p marks words m Stop
@@ -100,6 +100,7 @@ module _ {s : List ℕ} {p : Progress} {marks words m : List ℕ} (i : Inside s 
             so-far = record {
               before = after (r .before) (item kind b);
               known = keeps .known (r .before) (r .known) clean;
+              marks-sized = keeps .room .marks-size;
               loaded = keeps .loaded (r .before) (r .known) (r .loaded) clean;
               verdict =
                   r .verdict ∙ check-whole (r .before) (drop (p .at) s) kind b e
@@ -137,6 +138,7 @@ inside-start s short = record {
       acts-at-is = refl;
       marks-are = λ a low. getD-replicate 256 a 0 0 low;
     };
+    marks-sized = length-replicate {A = ℕ} 256 0;
     loaded = none-loaded;
     verdict = simp (le-ltb 65536 (length s) short);
   };
@@ -144,9 +146,10 @@ inside-start s short = record {
 
 -- the ways out
 loaded-as : {s : List ℕ} {r : Answer} {marks words m : List ℕ} (v : Verdict) → check s ≡ v → tells r ≡ answered v
-    → ((a : ℕ) → a < 256 → getD marks a 0 ≡ choose (given (wordsGiven (itemsOf v)) a) 1 0) → LoadedSoFar (itemsOf v) words m → Loaded s r marks words m
-loaded-as v e answer marks loaded = record {
+    → length marks ≡ 256 → ((a : ℕ) → a < 256 → getD marks a 0 ≡ choose (given (wordsGiven (itemsOf v)) a) 1 0) → LoadedSoFar (itemsOf v) words m → Loaded s r marks words m
+loaded-as v e answer sized marks loaded = record {
   answer = rw e answer;
+  marks-sized = sized;
   marks-are = λ a low. rw e (marks a low);
   words-are = rw e (loaded .words-are);
   sized = loaded .sized;
@@ -156,18 +159,18 @@ loaded-as v e answer marks loaded = record {
 pub loaded-long : (s : List ℕ) → 65536 < length s → Loaded s (Refused Long 0) (replicate 256 0) (replicate 256 0) (replicate 1152 0)
 unfolding check size contents given
 loaded-long s long =
-    loaded-as (refused 10 none) (simp (lt-ltb 65536 (length s) long)) refl (λ a low. getD-replicate 256 a 0 0 low) none-loaded
+    loaded-as (refused 10 none) (simp (lt-ltb 65536 (length s) long)) refl (length-replicate {A = ℕ} 256 0) (λ a low. getD-replicate 256 a 0 0 low) none-loaded
 
 module _ {s : List ℕ} {p : Progress} {marks words m : List ℕ} where
   pub loaded-fail : (f : Fault) → TurnRight s p marks words m (Fail f) → Loaded s (Refused f (p .at)) marks words m
-  loaded-fail f r = loaded-as (refused (numberOf f) (r .before)) (r .verdict) (ap (refusal (numberOf f)) (r .known .at-is)) (r .known .marks-are) (r .loaded)
+  loaded-fail f r = loaded-as (refused (numberOf f) (r .before)) (r .verdict) (ap (refusal (numberOf f)) (r .known .at-is)) (r .marks-sized) (r .known .marks-are) (r .loaded)
 
   pub loaded-stop : TurnRight s p marks words m Stop → Loaded s (reading p) marks words m
   unfolding ended lastSection size
   loaded-stop r = go (r .before) (r .known) (r .loaded) (r .verdict)
     where
       go : (before : Items) → Known before p marks → LoadedSoFar before words m → check s ≡ ended before → Loaded s (reading p) marks words m
-      go none known loaded e = loaded-as (refused 4 none) e (rw (known .section-is)) (known .marks-are) loaded
+      go none known loaded e = loaded-as (refused 4 none) e (rw (known .section-is)) (r .marks-sized) (known .marks-are) loaded
       go (after before x) known loaded e =
           loaded-as (accepted (after before x)) e
-          (simp (known .section-is, ne-eqb (section x) 0 (section-some x), known .k-is, known .q-is, known .w-is, known .requests-is, known .acts-at-is)) (known .marks-are) loaded
+          (simp (known .section-is, ne-eqb (section x) 0 (section-some x), known .k-is, known .q-is, known .w-is, known .requests-is, known .acts-at-is)) (r .marks-sized) (known .marks-are) loaded

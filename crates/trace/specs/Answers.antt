@@ -4,10 +4,10 @@ use mathlib.Core.List.{List}
 use mathlib.Core.Path.{_≡_}
 use lib.ListN.{length, getD, take, drop}
 use Rattle.lists.specs.Choice.{choose}
-use Rattle.trace.specs.Bytes.{Split, nothing, faulty, whole, bodySize, split}
-use Rattle.trace.specs.Item.{Items, size}
 use Rattle.store.specs.Layout.{size as machineSize}
 use Rattle.store.specs.Memory.{view}
+use Rattle.trace.specs.Bytes.{Split, nothing, faulty, whole, bodySize, split}
+use Rattle.trace.specs.Item.{Items, size}
 use Rattle.trace.specs.Contents.{shapeOf, wordsGiven, requestsOf, given, startWords, actsAt}
 use Rattle.trace.specs.Machine.{RequestsHeld}
 use Rattle.trace.specs.Check.{Verdict, refused, accepted, itemsOf, check}
@@ -77,6 +77,7 @@ tells (Accepted facts) = acceptance facts
 -- the answer, and the marks, the memory and the machine m after a trace is loaded: those of the items before the fault, where there is one
 pub record Loaded (s : List ℕ) (r : Answer) (marks words m : List ℕ) : Type 0 where
   pub answer : tells r ≡ answered (check s)
+  pub marks-sized : length marks ≡ 256
   pub marks-are : (a : ℕ) → a < 256 → getD marks a 0 ≡ choose (given (wordsGiven (itemsOf (check s))) a) 1 0
   pub words-are : words ≡ startWords (wordsGiven (itemsOf (check s)))
   pub sized : length m ≡ machineSize

@@ -123,6 +123,7 @@ reading p =
 pub record Decided (s : List ℕ) (p : Progress) (marks words m : List ℕ) (outcome : Items → Verdict) : Type 0 where
   pub before : Items
   pub known : Known before p marks
+  pub marks-sized : length marks ≡ 256
   pub loaded : LoadedSoFar before words m
   pub verdict : check s ≡ outcome before
 

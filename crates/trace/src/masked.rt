@@ -26,7 +26,7 @@ pub fn fixed_bits(k: u8) -> u64
 }
 
 // Bit 8 * level + what is 1 where the pair names a step: issue and collect at level 0; forward at 1 to k-1; module at k; return at 1
-// to k.
+// to k. No shape has k = 0: its set is there so that k at most 4 is all that is asked.
 pub fn steps_of(k: u8) -> u64
     requires { ⌜ k ≤ 4 ⌝ }
     ensures { λ r. ⌜ Steps k r ⌝ }

@@ -2,9 +2,9 @@
 ghost use mathlib.Core.Path.{_≡_};
 ghost use Prim.Native.Nat.{_≤_, _<_, _^_};
 ghost use lib.ListN.{length, getD, set};
+ghost use Rattle.store.specs.Layout.{size as machineSize};
 ghost use Rattle.trace.specs.Bytes.{number};
 ghost use Rattle.trace.specs.Item.{item, shapeIn, requestIn};
-ghost use Rattle.store.specs.Layout.{size as machineSize};
 ghost use Rattle.trace.specs.Loop.{begun, moved, shaped, MayNote, Keeps, RequestPut};
 use crate::bytes::number8;
 use operation::Words;

@@ -3,31 +3,32 @@ use Prim.Native.Nat.{ℕ, _-_, _≤_, _<_}
 use mathlib.Core.Path.{_≡_}
 use native.Mathlib.Omega.{arith}
 use borrow.Author.Needs.{needs}
+use Rattle.store.specs.Memory.{view}
 use Rattle.report.specs.Names.{Marked}
 use Rattle.report.proofs.Names.{marked-none, marked-more}
 use Rattle.report.proofs.name_requests.Statement.{statement}
 use Rattle.report.proofs.name_requests.Tie as tie
 
 abbrev Inv-loop : tie.InvT-loop
-Inv-loop table n given named₀ tag₀ named tag = (tag ≤ n) × Marked table tag given named
+Inv-loop m n given tag₀ named tag = (tag ≤ n) × Marked (view m .fixed .address) tag given named
 
 abbrev μ-loop : tie.MeasureT-loop
-μ-loop table n given named₀ tag₀ named tag = n - tag
-
-copy-marks-requires : tie.Need-copy-marks-requires Inv-loop μ-loop
-copy-marks-requires c κs = search needs
+μ-loop m n given tag₀ named tag = n - tag
 
 loop-holds : tie.Need-loop-holds Inv-loop μ-loop
-loop-holds c = (omega arith, marked-none (c .copy-marks .ensures))
+loop-holds c = (omega arith, marked-none (c .pre .1))
 
 cast-address-of : tie.Need-cast-address-of Inv-loop μ-loop
-cast-address-of c = omega (arith, c .before .before .before .before .pre .0 .few)
+cast-address-of c = omega (arith, c .loop-test .taken, c .before .before .pre .0)
 
 address-of-requires : tie.Need-address-of-requires Inv-loop μ-loop
 address-of-requires c κs = search needs
 
+cast-named : tie.Need-cast-named Inv-loop μ-loop
+cast-named c = search needs
+
 low : (c : tie.After-address-of Inv-loop μ-loop) → c .address-of .result < 256
-low c = rw (c .address-of .ensures) (c .before .before .before .before .before .pre .0 .low (c .before .before .loop .tag))
+low c = search needs
 
 element-write-named : tie.Need-element-write-named Inv-loop μ-loop
 element-write-named c = low c
@@ -39,10 +40,11 @@ loop-less : tie.Need-loop-less Inv-loop μ-loop
 loop-less c = search needs
 
 loop-again : tie.Need-loop-again Inv-loop μ-loop
-loop-again c = (omega arith, rw (c .address-of .ensures) (marked-more (c .before .before .loop .tag) (c .before .before .before .before .before .pre .0 .low (c .before .before .loop .tag)) (c .before .before .loop .inv .1)))
+loop-again c =
+    (omega arith, rw (c .address-of .ensures) (marked-more (c .before .before .loop .tag) (rw (c .address-of .ensures) at (low c)) (c .before .before .loop .inv .1)))
 
 returns : tie.Need-returns Inv-loop μ-loop
-returns c = let e : c .before .loop .tag ≡ c .before .before .before .before .args .n = omega arith in rw (← e) (c .before .loop .inv .1)
+returns c = let e : c .before .loop .tag ≡ c .before .before .args .n = omega arith in rw (← e) (c .before .loop .inv .1)
 
 pub name-requests-spec : {M : Type 1} → statement M
 name-requests-spec =
@@ -50,10 +52,10 @@ name-requests-spec =
     (tie.spec
     Inv-loop
     μ-loop
-    copy-marks-requires
     loop-holds
     cast-address-of
     address-of-requires
+    cast-named
     element-write-named
     add-tag
     loop-less

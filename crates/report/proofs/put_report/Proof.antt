@@ -1,12 +1,14 @@
 -- `report::put_report` meets its contract: what the trace is told decides the text.
+use mathlib.Core.Path.{refl}
+use native.Mathlib.Omega.{arith}
 use borrow.Author.Needs.{needs}
-use Rattle.model.proofs.Entry.{load-noted, load-loading}
-use Rattle.report.proofs.Reports.{printed-refused}
+use Rattle.model.proofs.Entry.{load-loading}
+use Rattle.report.proofs.Reports.{printed-refused, requests-few, ran-printable, printed-ran}
 use Rattle.report.proofs.put_report.Statement.{statement}
 use Rattle.report.proofs.put_report.Tie as tie
 
 load-requires : tie.Need-load-requires
-load-requires c κs = search needs
+load-requires c κs = (refl, refl, refl)
 
 enum-known-told : tie.Need-enum-known-told
 enum-known-told c = search needs
@@ -18,30 +20,47 @@ cast-put-refused : tie.Need-cast-put-refused
 cast-put-refused c = search needs
 
 put-refused-requires : tie.Need-put-refused-requires
-put-refused-requires c κs = search needs
+put-refused-requires c κs = omega (arith, c .before .before .before .before .before .before .before .before .before .before .before .pre)
 
 enum-known-told-2 : tie.Need-enum-known-told-2
 enum-known-told-2 c = search needs
 
-shape-of-requires : tie.Need-shape-of-requires
-shape-of-requires c κs = search needs
+name-requests-requires : tie.Need-name-requests-requires
+name-requests-requires c κs =
+    let told = c .before .before .before in
+    let loaded = told .before .before in
+    let bytes = loaded .before .before .before .before .before .shared-slice-known in
+    let o = load-loading (loaded .load .ensures) (told .told2 .given .1) in
+    (omega (arith, requests-few o (record { below = λ i. bytes .given i .fits })), loaded .load .ensures .marks-sized)
 
-put-run-requires : tie.Need-put-run-requires
-put-run-requires c κs =
-    let l = c .before .before .before .before .before .before .before .before .load .ensures in
-    (load-loading l _ _ (c .before .before .before .before .before .before .told2 .given .1) (c .before .before .before .before .shape-of .ensures), (load-noted l, c .before .before .before .before .before .before .before .before .before .before .before .before .before .before .pre))
+from-start-requires : tie.Need-from-start-requires
+from-start-requires c κs = load-loading (c .before .before .before .before .before .before .before .before .load .ensures) (c .before .before .before .before .before .before .told2 .given .1)
+
+put-results-requires : tie.Need-put-results-requires
+put-results-requires c κs =
+    let ran = c .before .before .before .before in
+    let start = ran .before .before .before .before .before .before .before .before .before .before .before .before .before .before .before in
+    (ran-printable (ran .from-start .ensures), start .pre)
 
 same-length : tie.Need-same-length
 same-length c = search needs
 
 returns : tie.Need-returns
-returns c = printed-refused (c .before .before .before .before .before .before .before .before .load .ensures) (c .before .before .before .before .before .before .told .given .1) (c .before .before .before .number-of .ensures) (c .before .before .put-refused .ensures)
+returns c =
+    printed-refused (c .before .before .before .before .before .before .before .before .load .ensures) (c .before .before .before .before .before .before .told .given .1)
+    (c .before .before .before .number-of .ensures)
+    (c .before .before .put-refused .ensures)
 
 same-length-2 : tie.Need-same-length-2
 same-length-2 c = search needs
 
 returns-2 : tie.Need-returns-2
-returns-2 c = search needs
+returns-2 c =
+    let ran = c .before .before .before .before .before .before .before in
+    let noted = ran .before .before .before in
+    let told = noted .before .before .before .before in
+    let l = told .before .before .load .ensures in
+    printed-ran l (load-loading l (told .told2 .given .1)) (noted .name-requests .ensures) (ran .from-start .ensures) (c .before .before .put-results .ensures)
 
 pub put-report-spec : {M : Type 1} → statement M
 put-report-spec =
@@ -53,8 +72,9 @@ put-report-spec =
     cast-put-refused
     put-refused-requires
     enum-known-told-2
-    shape-of-requires
-    put-run-requires
+    name-requests-requires
+    from-start-requires
+    put-results-requires
     same-length
     returns
     same-length-2
