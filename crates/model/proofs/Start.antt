@@ -17,7 +17,7 @@ use Rattle.shown.proofs.Start.{start-shows}
 use Rattle.shown.proofs.Reaching.{start-stands, stands-sound}
 use Rattle.store.specs.Memory.{view}
 use Rattle.moves.specs.Moves.{wordsIn}
-use Rattle.start.specs.Linked.{Empty, HasRequests, Loaded, Started}
+use Rattle.start.specs.Linked.{Empty, HasRequests, RequestsLoaded, Started}
 use Rattle.trace.specs.Bytes.{AreBytes}
 use Rattle.trace.specs.Item.{Word, Items}
 use Rattle.trace.specs.Contents.{shapeOf, wordsGiven, requestsOf, actsOf, putWords, startWords}
@@ -91,7 +91,7 @@ module _ {trace : List ℕ} {facts : Facts} {m words : List ℕ} (are : AreBytes
   requests-is : facts .requests ≡ length (requestsOf (itemsIn trace))
   requests-is = ap (λ (f : Facts). f .requests) (l .facts-are)
 
-  pub loading-loaded : Loaded m (facts .k) (facts .q) (facts .w) (facts .requests)
+  pub loading-loaded : RequestsLoaded m (facts .k) (facts .q) (facts .w) (facts .requests)
   loading-loaded = record {
     sized = l .sized;
     empty = held-empty (view m) (l .requests-are .elsewhere);

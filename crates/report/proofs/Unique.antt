@@ -1,7 +1,6 @@
 -- Only one result and one content of the buffer keep the promise: document 01, "How tightly the statements bind".
 use Prim.Native.Nat.{ℕ}
 use mathlib.Core.Path.{_≡_, sym, _∙_}
-use mathlib.Core.Bool.{Bool}
 use mathlib.Core.List.{List}
 use Rattle.report.specs.Written.{Reported}
 use Rattle.report.specs.declared.Written.{Written}

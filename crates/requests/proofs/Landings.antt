@@ -66,13 +66,13 @@ module _ (v : View) (s p : ℕ) where
   waits-idle requests carried merges = ap (λ (f : ℕ → ℕ → List Pair). filled requests f carried merges) (sym (update2-idle (v .waits) s p))
 
 -- ---- the node as it is loaded, with the rooms
-pub record Loaded (n : Node) (v : View) (t s p q w : ℕ) : Type 0 where
+pub record InHand (n : Node) (v : View) (t s p q w : ℕ) : Type 0 where
   pub inQueue : tagsOf (n .queue) ≡ v .requests s p
   pub inWaiting : pairsOf (n .waiting) ≡ v .waits s p
   pub roomQ : q ≡ v .fixed .q
   pub roomW : w ≡ v .fixed .w
 
-module _ {n : Node} {v : View} {t s p q w : ℕ} (L : Loaded n v t s p q w) where
+module _ {n : Node} {v : View} {t s p q w : ℕ} (L : InHand n v t s p q w) where
   pub loaded-apart : Apart t (v .requests s p) (v .waits s p) → Apart t (tagsOf (n .queue)) (pairsOf (n .waiting))
   loaded-apart h = rw (L .inQueue, L .inWaiting) h
 
@@ -80,7 +80,7 @@ module _ {n : Node} {v : View} {t s p q w : ℕ} (L : Loaded n v t s p q w) wher
   loaded-rooms h g = (rw (L .roomQ) h, rw (L .roomW) g)
 
 -- ---- and what came of the arrival
-module _ {n : Node} {v : View} {t s p q w : ℕ} (L : Loaded n v t s p q w) {m₁ : List ℕ} {r : Arrived} (A : ArrivedAt n v t q w m₁ r) where
+module _ {n : Node} {v : View} {t s p q w : ℕ} (L : InHand n v t s p q w) {m₁ : List ℕ} {r : Arrived} (A : ArrivedAt n v t q w m₁ r) where
   loaded-arrives : (x : Network) → x .Q ≡ v .fixed .q → x .W ≡ v .fixed .w →
       arrive (setup x) (nodeOf x v (v .requests s p) (v .waits s p)) (messageOf x v t) ≡
       arrivalOf x (cameOf (r .outcome)) (nodeOf x (carrying v (view m₁ .carried)) (tagsOf (r .node .queue)) (pairsOf (r .node .waiting)))

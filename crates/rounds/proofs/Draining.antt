@@ -14,11 +14,11 @@ use Rattle.shown.proofs.Drains.{drain-spent, drain-stops, round-drains, round-s
 use Rattle.shown.proofs.Reaching.{stands-sound}
 use Rattle.store.specs.Memory.{view, Becomes, Same}
 use Rattle.moves.specs.Moves.{wordsIn, ReadyWith, MovesWith}
-use Rattle.rounds.specs.Drains.{Drained, Answered}
+use Rattle.rounds.specs.Drains.{Drained, AllAnswered}
 use Rattle.rounds.proofs.Whole.{with-stand}
 
 -- ---- "every request is answered"
-pub answered-tells : {m : List ℕ} (r : Bool) → Same (view m .answered) (view m .fixed .every) r → Answered m r
+pub answered-tells : {m : List ℕ} (r : Bool) → Same (view m .answered) (view m .fixed .every) r → AllAnswered m r
 answered-tells {m} true s = record { tells = λ x words S. all-answered x (view m) words (S .fits) (s .same refl) }
 answered-tells {m} false s = record { tells = λ x words S. not-all-answered x (view m) words (S .fits) (stands-sound S .onePlace) (s .differ refl) }
 
@@ -47,7 +47,7 @@ module _ {allowed left : ℕ} {m₀ words₀ m words : List ℕ} (A : Draining a
     stands = A .stands;
   }
 
-  pub draining-stops : {r : Bool} → Answered m r → r ≡ true → Drained allowed m₀ words₀ m words
+  pub draining-stops : {r : Bool} → AllAnswered m r → r ≡ true → Drained allowed m₀ words₀ m words
   draining-stops a e = over (λ x S. drain-stops x (view m) (wordsIn words) (a .tells x (wordsIn words) S ∙ e) left)
 
   pub draining-spent : left ≡ 0 → Drained allowed m₀ words₀ m words
@@ -69,7 +69,7 @@ module _ {allowed left : ℕ} {m₀ words₀ m words : List ℕ} (A : Draining a
       stands-on : (x : Network) → Stands x (view m) (wordsIn words) → Stands x (view m″) (wordsIn words′)
       stands-on x S = rw (B .holds) (round-stands (with-stand (λ k. round k (2 ^ k)) (λ k. round-fits k (2 ^ k)) M x S))
 
-      pub draining-goes : {r : Bool} → Answered m r → r ≡ false → 0 < left → Draining allowed m₀ words₀ m″ words′ (left - 1)
+      pub draining-goes : {r : Bool} → AllAnswered m r → r ≡ false → 0 < left → Draining allowed m₀ words₀ m″ words′ (left - 1)
       draining-goes a e h = record {
         began = A .began;
         few = A .few;

@@ -21,5 +21,5 @@ pub record Drained (allowed : ℕ) (m words m′ words′ : List ℕ) : Type 0 w
   pub stands : (x : Network) → Stands x (view m) (wordsIn words) → Stands x (view m′) (wordsIn words′)
 
 -- "every request is answered"
-pub record Answered (m : List ℕ) (r : Bool) : Type 0 where
+pub record AllAnswered (m : List ℕ) (r : Bool) : Type 0 where
   pub tells : (x : Network) (words : ℕ → ℕ) → Stands x (view m) words → allAnswered (setup x) (shown x (view m) words) ≡ r

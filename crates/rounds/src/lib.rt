@@ -9,7 +9,7 @@ ghost use Prim.Native.Nat.{_-_, _≤_, _<_, _^_};
 ghost use Rattle.machine.specs.Run.{row, rowsUp, rowsDown, round as roundEvents};
 ghost use Rattle.store.specs.Memory.{view};
 ghost use Rattle.moves.specs.Moves.{Ready, ReadyWith, Moves, MovesWith};
-ghost use Rattle.rounds.specs.Drains.{Drained, Answered};
+ghost use Rattle.rounds.specs.Drains.{Drained, AllAnswered};
 
 // "A drain stops when every request is answered or its allowance is spent."
 pub fn drain(m: &mut Machine, words: &mut [u64; 256], allowed: u64)
@@ -31,7 +31,7 @@ pub fn drain(m: &mut Machine, words: &mut [u64; 256], allowed: u64)
 // "every request is answered"
 pub fn all_answered(m: &Machine) -> bool
     requires { ⌜ Ready (now m) ⌝ }
-    ensures { λ r. ⌜ Answered (now (m .entry)) r ⌝ }
+    ensures { λ r. ⌜ AllAnswered (now (m .entry)) r ⌝ }
 {
     answers::all_answered(m)
 }

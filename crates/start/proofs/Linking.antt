@@ -21,7 +21,7 @@ use Rattle.shown.specs.Reached.{AtStart}
 use Rattle.shown.proofs.Engines.{next-within}
 use Rattle.store.specs.Layout.{size}
 use Rattle.store.specs.Memory.{view, Becomes}
-use Rattle.start.specs.Linked.{Empty, HasRequests, Loaded, Started, LinkedTo, firstIn}
+use Rattle.start.specs.Linked.{Empty, HasRequests, RequestsLoaded, Started, LinkedTo, firstIn}
 
 -- the requests from t on are linked, and each engine has its first of them
 pub record Linked (x : Network) (v : View) (t : ℕ) : Type 0 where
@@ -153,7 +153,7 @@ linked-all x v all = record {
   no-merges = all .no-merges;
 }
 
-pub loaded-within : {m : List ℕ} {k q w count : ℕ} → Loaded m k q w count → count ≤ 256
+pub loaded-within : {m : List ℕ} {k q w count : ℕ} → RequestsLoaded m k q w count → count ≤ 256
 loaded-within loaded = omega (arith, loaded .requests .ranges .R-most, loaded .count-is)
 
 -- ---- the loop: from the machine m₀, where none are linked, to the machine m, where those from t on are
@@ -163,7 +163,7 @@ pub record Linking (m₀ m : List ℕ) (count t : ℕ) : Type 0 where
   pub counted : view m .fixed .count ≡ count
   pub links : (x : Network) → Linked x (view m₀) count → Linked x (view m) t
 
-module _ (m : List ℕ) (k q w count : ℕ) (loaded : Loaded m k q w count) (m₀ : List ℕ) (shaping : Becomes m₀ (withFixed (view m) (shaped (view m .fixed) k q w count))) where
+module _ (m : List ℕ) (k q w count : ℕ) (loaded : RequestsLoaded m k q w count) (m₀ : List ℕ) (shaping : Becomes m₀ (withFixed (view m) (shaped (view m .fixed) k q w count))) where
   pub linking-none : Linking m₀ m₀ count count
   linking-none = record {
     sized = shaping .sized;

@@ -34,7 +34,7 @@ pub record HasRequests (x : Network) (v : View) : Type 0 where
   pub asked : (t : ℕ) → t < x .R → operationIn (v .carried t) ≡ x .askedOf t
 
 -- the requests of some network are in an empty machine; these are its shape and the number of its requests
-pub record Loaded (m : List ℕ) (k q w count : ℕ) : Type 0 where
+pub record RequestsLoaded (m : List ℕ) (k q w count : ℕ) : Type 0 where
   pub sized : length m ≡ size
   pub empty : Empty (view m)
   pub network : Network

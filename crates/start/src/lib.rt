@@ -8,11 +8,11 @@ ghost use Prim.Native.Nat.{_≤_, _<_};
 ghost use lib.ListN.{length};
 ghost use Rattle.store.specs.Layout.{size};
 ghost use Rattle.store.specs.Memory.{view};
-ghost use Rattle.start.specs.Linked.{Loaded, Started, LinkedTo, firstIn};
+ghost use Rattle.start.specs.Linked.{RequestsLoaded, Started, LinkedTo, firstIn};
 
 // From the requests that a trace has put into the machine.
 pub fn start(m: &mut Machine, k: u64, q: u64, w: u64, count: usize)
-    requires { ⌜ Loaded (now m) k q w count ⌝ }
+    requires { ⌜ RequestsLoaded (now m) k q w count ⌝ }
     ensures { λ _. ⌜ Started (now (m .entry)) k q w count (now (m .exit)) ⌝ }
 {
     shape::set_shape(m, k, q, w, count);

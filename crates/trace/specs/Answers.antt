@@ -56,21 +56,21 @@ pub record HeadRead (s : List ℕ) (at : ℕ) (r : Head) : Type 0 where
   pub fits : HeadFits (length s) at r
 
 -- what a trace is told: a number and an offset, or that it is accepted, and what it says of itself
-pub data Answered : Type 0 where
-  refusal : ℕ → ℕ → Answered
-  acceptance : Facts → Answered
+pub data TraceTold : Type 0 where
+  refusal : ℕ → ℕ → TraceTold
+  acceptance : Facts → TraceTold
 
 -- k, Q, W, R and the offset of the first act
 abbrev pub factsOf : Items → Facts
 factsOf xs = record { k = shapeOf xs .k; q = shapeOf xs .q; w = shapeOf xs .w; requests = length (requestsOf xs); «acts_at» = actsAt xs }
 
 -- "The answer is the number and the offset of the faulty record's first byte; for 10 .. and an empty trace the offset is 0"
-abbrev pub answered : Verdict → Answered
+abbrev pub answered : Verdict → TraceTold
 answered (refused n before) = refusal n (size before)
 answered (accepted xs) = acceptance (factsOf xs)
 
 -- this paper's number and values of the code's answer
-abbrev pub tells : Answer → Answered
+abbrev pub tells : Answer → TraceTold
 tells (Refused f at) = refusal (numberOf f) at
 tells (Accepted facts) = acceptance facts
 

@@ -1,19 +1,7 @@
 // The omega network's wiring: document 01, "Wiring and queues", after Lawrie, "Access and Alignment of Data in an Array Processor", 1975.
 ghost use mathlib.Core.Path.{_≡_};
-ghost use Prim.Native.Nat.{_*_, _/_, _^_, _≤_, _<_};
-ghost use Rattle.wiring.specs.Wiring.{position, moduleOf, positionOn, PathOf};
-
-// The position, at a level, of the path of an engine to a module.
-pub fn position(k: usize, engine: u64, to: u64, level: usize) -> usize
-    requires { ⌜ (k ≤ 4) × (level ≤ k) ⌝ }
-    requires { ⌜ (engine < 2 ^ k) × (to < 2 ^ k) ⌝ }
-    ensures { λ r. ⌜ (r ≡ position k engine to level) × (r < 16) ⌝ }
-{
-    let rest = k - level;
-    let high = shifted_left(engine, level);
-    let low = shifted_right(to, rest);
-    module_of(k, high + low) as usize
-}
+ghost use Prim.Native.Nat.{_^_, _≤_, _<_};
+ghost use Rattle.wiring.specs.Wiring.{moduleOf, positionOn, PathOf};
 
 // The module that a word belongs to.
 pub fn module_of(k: usize, address: u64) -> u64
@@ -21,20 +9,6 @@ pub fn module_of(k: usize, address: u64) -> u64
     ensures { λ r. ⌜ (r ≡ moduleOf k address) × (r < 2 ^ k) ⌝ }
 {
     address % (1u64 << k)
-}
-
-fn shifted_left(x: u64, places: usize) -> u64
-    requires { ⌜ (x < 16) × (places ≤ 4) ⌝ }
-    ensures { λ r. ⌜ (r ≡ x * 2 ^ places) × (r < 256) ⌝ }
-{
-    x << places
-}
-
-fn shifted_right(x: u64, places: usize) -> u64
-    requires { ⌜ places ≤ 4 ⌝ }
-    ensures { λ r. ⌜ (r ≡ x / 2 ^ places) × (r ≤ x) ⌝ }
-{
-    x >> places
 }
 
 // The positions of an engine's path to the module of an address, one word: four bits for each of levels 0 to k, level 0 the lowest.

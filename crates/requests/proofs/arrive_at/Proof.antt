@@ -3,7 +3,7 @@ use native.Mathlib.Omega.{arith}
 use borrow.Author.Needs.{needs}
 use Rattle.store.specs.Memory.{view}
 use Rattle.node.specs.declared.Node.{Node}
-use Rattle.requests.proofs.Landings.{Loaded, loaded-apart, loaded-rooms, longer-by-one, recorded-by-one, merges-still-few, went-refused, went-appended, went-merged}
+use Rattle.requests.proofs.Landings.{InHand, loaded-apart, loaded-rooms, longer-by-one, recorded-by-one, merges-still-few, went-refused, went-appended, went-merged}
 use Rattle.requests.proofs.arrive_at.Statement.{statement}
 use Rattle.requests.proofs.arrive_at.Tie as tie
 
@@ -12,7 +12,7 @@ abbrev node-at : (c : tie.After-load-waits) → Node
 node-at c = record { queue = c .before .before .load-requests .result; waiting = c .load-waits .result }
 
 loaded : (c : tie.After-load-waits) → let s = c .before .before .before .before .before .before .before .before in
-    Loaded (node-at c) (view (s .args .m .now)) (s .args .t) (s .args .level) (s .args .position)
+    InHand (node-at c) (view (s .args .m .now)) (s .args .t) (s .args .level) (s .args .position)
     (c .before .before .before .before .before .before .queue-room .result) (c .before .before .before .before .wait-room .result)
 loaded c = record {
   inQueue = c .before .before .load-requests .ensures .0;
