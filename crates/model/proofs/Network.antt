@@ -12,8 +12,7 @@ use Rattle.machine.specs.Lawful.{Lawful}
 use Rattle.shown.specs.Network.{Ranges}
 use Rattle.shown.proofs.Reaching.{ranges-lawful}
 use Rattle.trace.specs.Item.{Request, Items}
-use Rattle.trace.specs.Contents.{shapeOf, requestsOf, actsOf}
-use Rattle.trace.specs.Machine.{requestAt}
+use Rattle.trace.specs.Contents.{shapeOf, requestsOf, requestAt, actsOf}
 use Rattle.trace.specs.Ranges.{RequestIn, ActIn, InRange}
 use Rattle.trace.proofs.Tests.{both-true}
 use Rattle.model.specs.Result.{setupOf}

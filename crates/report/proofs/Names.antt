@@ -14,8 +14,7 @@ use Rattle.lists.proofs.Tests.{eqb-cases}
 use Rattle.lists.proofs.Below.{below-is}
 use Rattle.store.specs.Memory.{view}
 use Rattle.trace.specs.Item.{Request}
-use Rattle.trace.specs.Contents.{wordsGiven, requestsOf, given}
-use Rattle.trace.specs.Machine.{noRequest, requestAt}
+use Rattle.trace.specs.Contents.{wordsGiven, requestsOf, noRequest, requestAt, given}
 use Rattle.trace.specs.Answers.{Loaded}
 use Rattle.trace.specs.declared.Answer.{Answer}
 use Rattle.model.specs.Report.{asksFor, named}

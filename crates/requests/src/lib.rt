@@ -53,7 +53,8 @@ pub fn forward(m: &mut Machine, level: usize, position: usize)
 // Neither the queue nor the wait buffer has room: told before anything is loaded, for that is most of what happens in a jammed network.
 fn is_full(m: &Machine, level: usize, position: usize) -> bool
     requires { ⌜ (0 < level) × (level < 5) × (position < 16) ⌝ }
-    ensures { λ r. ⌜ r ≡ both (leb (view (now (m .entry)) .fixed .q) (length (view (now (m .entry)) .requests level position))) (leb (view (now (m .entry)) .fixed .w) (length (view (now (m .entry)) .waits level position))) ⌝ }
+    ensures { λ r. ⌜ r ≡ both (leb (view (now (m .entry)) .fixed .q) (length (view (now (m .entry)) .requests level position)))
+        (leb (view (now (m .entry)) .fixed .w) (length (view (now (m .entry)) .waits level position))) ⌝ }
 {
     if queues::request_count(m, level, position) < shape::queue_room(m) {
         return false;

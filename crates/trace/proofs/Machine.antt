@@ -13,7 +13,8 @@ use Rattle.view.specs.View.{View, blank, withRequest}
 use Rattle.wiring.specs.Wiring.{moduleOf, PathOf}
 use Rattle.store.specs.Memory.{view}
 use Rattle.trace.specs.Item.{Request}
-use Rattle.trace.specs.Machine.{noRequest, requestAt, askedBy, RequestHeld, RequestsHeld}
+use Rattle.trace.specs.Contents.{noRequest, requestAt}
+use Rattle.trace.specs.Machine.{askedBy, RequestHeld, RequestsHeld}
 use Rattle.trace.specs.Loop.{RequestPut}
 
 -- where nothing is loaded, no request is held

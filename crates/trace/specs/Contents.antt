@@ -2,7 +2,7 @@
 use Prim.Native.Nat.{ℕ, _+_}
 use mathlib.Core.Bool.{Bool, true, false}
 use mathlib.Core.List.{List, [], _∷_, _++_}
-use lib.ListN.{set, replicate}
+use lib.ListN.{set, replicate, getD}
 use lib.Dec.{eqb, ltb}
 use Rattle.lists.specs.Choice.{choose}
 use Rattle.event.specs.Event.{Act}
@@ -40,6 +40,13 @@ requestsOf xs = contents xs .requests
 
 abbrev pub actsOf : Items → List Act
 actsOf xs = contents xs .acts
+
+-- the request of a tag; what is no tag of the trace is a load of engine 0 at word 0, which nothing asks about
+abbrev pub noRequest : Request
+noRequest = record { engine = 0; operation = 0; address = 0; first = 0; second = 0 }
+
+abbrev pub requestAt : List Request → ℕ → Request
+requestAt requests t = getD requests t noRequest
 
 -- "a word address given": one of the words has address a
 unfoldable pub given : List Word → ℕ → Bool

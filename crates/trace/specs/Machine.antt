@@ -2,18 +2,12 @@
 use Prim.Native.Nat.{ℕ, _<_}
 use mathlib.Core.Path.{_≡_}
 use mathlib.Core.List.{List}
-use lib.ListN.{length, getD}
+use lib.ListN.{length}
 use Rattle.operation.specs.declared.Words.{Words}
 use Rattle.wiring.specs.Wiring.{moduleOf, PathOf}
 use Rattle.view.specs.View.{View, blank}
 use Rattle.trace.specs.Item.{Request}
-
--- the request of a tag; what is no tag of the trace is a load of engine 0 at word 0, which nothing asks about
-abbrev pub noRequest : Request
-noRequest = record { engine = 0; operation = 0; address = 0; first = 0; second = 0 }
-
-abbrev pub requestAt : List Request → ℕ → Request
-requestAt requests t = getD requests t noRequest
+use Rattle.trace.specs.Contents.{requestAt}
 
 -- "operation, first operand, second operand"
 abbrev pub askedBy : Request → Words
