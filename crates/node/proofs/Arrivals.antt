@@ -30,7 +30,7 @@ use Rattle.queue.specs.declared.Pairs.{Pairs}
 use Rattle.queue.specs.declared.Place.the-variants.{At}
 use Rattle.store.specs.Layout.{size}
 use Rattle.store.specs.Memory.{view, Becomes}
-use Rattle.node.specs.Node.{HeldNode, nodeIn, Apart, youngestTag, foundIn, AppendedTo, ArrivedAt}
+use Rattle.node.specs.Node.{HeldNode, nodeIn, ApartAt, youngestTag, foundIn, AppendedTo, ArrivedAt}
 use Rattle.node.specs.declared.Node.{Node}
 use Rattle.node.specs.declared.Arrived.{Arrived}
 use Rattle.node.specs.declared.Outcome.the-variants.{Merged, Appended, Refused}
@@ -165,7 +165,7 @@ exchanged v u t o = replaced (replaced v u o) t (operationIn (v .carried u))
 abbrev times : ℕ → List ℕ → ℕ
 times a tags = count (λ (u : ℕ). u) a tags
 
-module _ (n : Node) (v : View) (t u : ℕ) (older younger : List ℕ) (o : Operation) (apart : Apart t (tagsOf (n .queue)) (pairsOf (n .waiting)))
+module _ (n : Node) (v : View) (t u : ℕ) (older younger : List ℕ) (o : Operation) (apart : ApartAt t (tagsOf (n .queue)) (pairsOf (n .waiting)))
     (queue-is : tagsOf (n .queue) ≡ older ++ (u ∷ younger)) where
   -- each tag stands once among them all
   once : (a : ℕ) → same t a + ((times a older + (same u a + times a younger)) + count (λ (r : Pair). r .second) a (pairsOf (n .waiting))) ≤ 1
@@ -245,7 +245,7 @@ module _ (n : Node) (m : List ℕ) (t q w i u : ℕ)
   never-arrives sized r a e =
       appended-arrives n m t q w sized r a (λ x W. arrive-never x (view m) n t older u younger found-is (rw (before-is, arriving-is) at e))
 
-  module _ (held : HeldNode n) (apart : Apart t (tagsOf (n .queue)) (pairsOf (n .waiting))) (room : n .waiting .len < w)
+  module _ (held : HeldNode n) (apart : ApartAt t (tagsOf (n .queue)) (pairsOf (n .waiting))) (room : n .waiting .len < w)
       (o : Operation) (e : One o ≡ operations.merged before arriving)
       (m₁ m₂ : List ℕ) (b₁ : Becomes m₁ (withCarried (view m) u (operations.wordsOf o))) (b₂ : Becomes m₂ (withCarried (view m₁) t (operations.wordsOf before)))
       (waiting : Pairs) (longer : pairsOf waiting ≡ pairsOf (n .waiting) ++ (record { first = u; second = t } ∷ [])) (fits : HeldPairs waiting) where

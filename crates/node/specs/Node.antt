@@ -40,8 +40,8 @@ cameOf Appended = cameAppended
 cameOf Refused = cameRefused
 
 -- the arriving request, those in the queue and the seconds of the wait buffer are as many requests
-abbrev pub Apart : ℕ → List ℕ → List Pair → Type 0
-Apart t tags pairs = Distinct (λ (u : ℕ). u) (t ∷ (tags ++ map (λ (r : Pair). r .second) pairs))
+abbrev pub ApartAt : ℕ → List ℕ → List Pair → Type 0
+ApartAt t tags pairs = Distinct (λ (u : ℕ). u) (t ∷ (tags ++ map (λ (r : Pair). r .second) pairs))
 
 -- ---- the youngest tag with an address
 unfoldable pub youngestTag : (ℕ → ℕ) → ℕ → List ℕ → Found ℕ

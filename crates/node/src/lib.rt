@@ -12,7 +12,7 @@ ghost use lib.ListN.{length};
 ghost use Rattle.queue.specs.Queue.{tagsOf, pairsOf, HeldTags};
 ghost use Rattle.store.specs.Layout.{size};
 ghost use Rattle.store.specs.Memory.{view};
-ghost use Rattle.node.specs.Node.{HeldNode, Apart, youngestTag, foundIn, AppendedTo, ArrivedAt};
+ghost use Rattle.node.specs.Node.{HeldNode, ApartAt, youngestTag, foundIn, AppendedTo, ArrivedAt};
 
 pub struct Node {
     pub queue: Tags,
@@ -35,7 +35,7 @@ impl Node {
     pub fn arrive(mut self, m: &mut Machine, t: u8, q: usize, w: usize) -> Arrived
         requires { ⌜ length (now m) ≡ size ⌝ }
         requires { ⌜ HeldNode self ⌝ }
-        requires { ⌜ Apart t (tagsOf (self .queue)) (pairsOf (self .waiting)) ⌝ }
+        requires { ⌜ ApartAt t (tagsOf (self .queue)) (pairsOf (self .waiting)) ⌝ }
         requires { ⌜ (q ≤ 4) × (w ≤ 8) ⌝ }
         ensures { λ r. ⌜ ArrivedAt self (view (now (m .entry))) t q w (now (m .exit)) r ⌝ }
     {

@@ -39,7 +39,7 @@ fn put_report(trace: &[u8], out: &mut [u8]) -> usize
 {
     let mut given = [0u8; 256];
     let mut memory = [0u64; 256];
-    let mut m = [0u64; 1152];
+    let mut m = [0u64; store::SIZE];
     let told = trace::load(trace, &mut given, &mut memory, &mut m);
     match told {
         Answer::Refused(f, at) => text::put_refused(out, trace::number_of(f) as u64, at as u64),

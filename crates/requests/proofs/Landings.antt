@@ -19,7 +19,7 @@ use Rattle.shown.specs.Shown.{messageOf}
 use Rattle.shown.specs.Landing.{Came, cameMerged, cameAppended, cameRefused, nodeOf, arrivalOf, mergesAfter, withNode, Landed}
 use Rattle.queue.specs.Queue.{tagsOf, pairIn, pairsOf}
 use Rattle.store.specs.Memory.{view, Becomes}
-use Rattle.node.specs.Node.{Apart, cameOf, carrying, ArrivedAt}
+use Rattle.node.specs.Node.{ApartAt, cameOf, carrying, ArrivedAt}
 use Rattle.node.specs.declared.Node.{Node}
 use Rattle.node.specs.declared.Arrived.{Arrived}
 use Rattle.node.specs.declared.Outcome.{Outcome}
@@ -73,7 +73,7 @@ pub record InHand (n : Node) (v : View) (t s p q w : ℕ) : Type 0 where
   pub roomW : w ≡ v .fixed .w
 
 module _ {n : Node} {v : View} {t s p q w : ℕ} (L : InHand n v t s p q w) where
-  pub loaded-apart : Apart t (v .requests s p) (v .waits s p) → Apart t (tagsOf (n .queue)) (pairsOf (n .waiting))
+  pub loaded-apart : ApartAt t (v .requests s p) (v .waits s p) → ApartAt t (tagsOf (n .queue)) (pairsOf (n .waiting))
   loaded-apart h = rw (L .inQueue, L .inWaiting) h
 
   pub loaded-rooms : v .fixed .q ≤ 4 → v .fixed .w ≤ 8 → (q ≤ 4) × (w ≤ 8)

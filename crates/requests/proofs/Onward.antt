@@ -30,7 +30,7 @@ use Rattle.shown.proofs.Events.{issue-is, forward-is}
 use Rattle.shown.proofs.Forwards.{oldest-first, landed-fixed, landed-rounds, forward-apart, forward-full, forward-stays, forward-shows}
 use Rattle.shown.proofs.Issues.{issue-shows}
 use Rattle.store.specs.Memory.{view, Becomes}
-use Rattle.node.specs.Node.{Apart}
+use Rattle.node.specs.Node.{ApartAt}
 use Rattle.moves.specs.Moves.{Ready, Moves, wentOn, Went}
 
 -- a list by its oldest
@@ -81,7 +81,7 @@ module _ {m : List ℕ} {es : List Event} {s p t to : ℕ} (G : Going m es s p t
   first : (x : Network) → (behind : List ℕ) × (tagsAt x (view m) s p ≡ t ∷ behind)
   first x = oldest-first x (view m) s p t (G .rest) (G .is)
 
-  pub going-apart : Apart t (view m .requests (s + 1) to) (view m .waits (s + 1) to)
+  pub going-apart : ApartAt t (view m .requests (s + 1) to) (view m .waits (s + 1) to)
   going-apart = let f = first (G .ready .network) in rw add-one (forward-apart (G .ready .stands) s p t (f .0) (f .1) to)
 
   pub going-few : (length (view m .requests (s + 1) to) ≤ 4) × (length (view m .waits (s + 1) to) ≤ 8)

@@ -10,7 +10,7 @@ ghost use Prim.Native.Nat.{_≤_, _<_};
 ghost use lib.Dec.{leb};
 ghost use lib.ListN.{length};
 ghost use Rattle.lists.specs.Choice.{both};
-ghost use Rattle.node.specs.Node.{Apart};
+ghost use Rattle.node.specs.Node.{ApartAt};
 ghost use Rattle.store.specs.Layout.{size};
 ghost use Rattle.store.specs.Memory.{view};
 ghost use Rattle.shown.specs.Reached.{single};
@@ -67,7 +67,7 @@ fn arrive_at(m: &mut Machine, t: u8, level: usize, position: usize) -> bool
     requires { ⌜ length (now m) ≡ size ⌝ }
     requires { ⌜ (0 < level) × (level < 5) × (position < 16) × (length (view (now m) .requests level position) ≤ 4) × (length (view (now m) .waits level position) ≤ 8) ⌝ }
     requires { ⌜ (view (now m) .fixed .q ≤ 4) × (view (now m) .fixed .w ≤ 8) × (view (now m) .merges < 65536) ⌝ }
-    requires { ⌜ Apart t (view (now m) .requests level position) (view (now m) .waits level position) ⌝ }
+    requires { ⌜ ApartAt t (view (now m) .requests level position) (view (now m) .waits level position) ⌝ }
     ensures { λ r. ⌜ Went (view (now (m .entry))) t level position (now (m .exit)) r ⌝ }
 {
     let q = shape::queue_room(m);

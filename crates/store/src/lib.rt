@@ -5,8 +5,11 @@ pub mod queues;
 pub mod shape;
 pub mod tags;
 
+// How many words it has.
+pub const SIZE: usize = 1152;
+
 // The whole state of a run but for the memory's words. specs/Layout.antt says what stands where.
-pub type Machine = [u64; 1152];
+pub type Machine = [u64; SIZE];
 
 // The shape, the number of requests, and a bit for each of them.
 const K: usize = 0;

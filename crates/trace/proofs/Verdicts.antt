@@ -9,6 +9,7 @@ use lib.Seq.{drop-drop}
 use borrow.Author.Tests.{ne-eqb, lt-ltb, le-ltb}
 use Rattle.lists.specs.Choice.{choose}
 use Rattle.store.proofs.Blank.{zeros-blank}
+use Rattle.store.specs.Layout.{size as machineSize}
 use Rattle.trace.specs.Bytes.{nothing, faulty, whole, split}
 use Rattle.trace.specs.Item.{item, requestIn, Items, none, after, size, records}
 use Rattle.trace.specs.Contents.{contents, wordsGiven, given, startWords, putWords, section, lastSection, actsAt}
@@ -110,11 +111,11 @@ module _ {s : List ℕ} {p : Progress} {marks words m : List ℕ} (i : Inside s 
         )
 
 -- the start: nothing is known, and the whole trace decides
-none-loaded : LoadedSoFar none (replicate 256 0) (replicate 1152 0)
+none-loaded : LoadedSoFar none (replicate 256 0) (replicate machineSize 0)
 unfolding contents startWords putWords
 none-loaded = record { words-are = refl; sized = zeros-blank .sized; requests-are = none-held 0 (zeros-blank .holds) }
 
-pub inside-start : (s : List ℕ) → length s ≤ 65536 → Inside s begun (replicate 256 0) (replicate 256 0) (replicate 1152 0)
+pub inside-start : (s : List ℕ) → length s ≤ 65536 → Inside s begun (replicate 256 0) (replicate 256 0) (replicate machineSize 0)
 unfolding check size lastSection contents given actsAt
 inside-start s short = record {
   short = short;
@@ -156,7 +157,7 @@ loaded-as v e answer sized marks loaded = record {
   requests-are = rw e (loaded .requests-are);
 }
 
-pub loaded-long : (s : List ℕ) → 65536 < length s → Loaded s (Refused Long 0) (replicate 256 0) (replicate 256 0) (replicate 1152 0)
+pub loaded-long : (s : List ℕ) → 65536 < length s → Loaded s (Refused Long 0) (replicate 256 0) (replicate 256 0) (replicate machineSize 0)
 unfolding check size contents given
 loaded-long s long =
     loaded-as (refused 10 none) (simp (lt-ltb 65536 (length s) long)) refl (length-replicate {A = ℕ} 256 0) (λ a low. getD-replicate 256 a 0 0 low) none-loaded

@@ -1,6 +1,7 @@
 // The records of a trace, and the check of a whole trace: document 01, "Trace records" and "What a trace is told".
 ghost use mathlib.Core.Path.{_≡_};
 ghost use lib.ListN.{replicate};
+ghost use Rattle.store.specs.Layout.{size as machineSize};
 ghost use Rattle.trace.specs.Check.{check as verdict};
 ghost use Rattle.trace.specs.Answers.{numberOf, answered, tells, Loaded};
 ghost use Rattle.trace.specs.Loop.{reading};
@@ -69,14 +70,14 @@ pub fn check(s: &[u8]) -> Answer
 {
     let mut given = [0u8; 256];
     let mut words = [0u64; 256];
-    let mut m = [0u64; 1152];
+    let mut m = [0u64; store::SIZE];
     load(s, &mut given, &mut words, &mut m)
 }
 
 // What a trace is told; which addresses its words have, its starting words and its requests go into the marks, the memory and
 // the machine, which are zeros before.
 pub fn load(s: &[u8], given: &mut [u8; 256], words: &mut [u64; 256], m: &mut Machine) -> Answer
-    requires { ⌜ (now given ≡ replicate 256 0) × (now words ≡ replicate 256 0) × (now m ≡ replicate 1152 0) ⌝ }
+    requires { ⌜ (now given ≡ replicate 256 0) × (now words ≡ replicate 256 0) × (now m ≡ replicate machineSize 0) ⌝ }
     ensures { λ r. ⌜ Loaded (now (s .entry)) r (now (given .exit)) (now (words .exit)) (now (m .exit)) ⌝ }
 {
     if s.len() > 65536 {
