@@ -101,7 +101,8 @@ module _ (lengths : ℕ) (m m′ : List ℕ) (level position n : ℕ)
   length-here : lengthsAt lengths m′ level position ≡ n
   length-here = ap (λ (f : ℕ → ℕ). f position) e ∙ update-same _ position n
 
-  length-other : (s p : ℕ) → (s ≢ level → getD m′ (lengths + s) 0 ≡ getD m (lengths + s) 0) → ¬ ((s ≡ level) × (p ≡ position)) → lengthsAt lengths m′ s p ≡ lengthsAt lengths m s p
+  length-other : (s p : ℕ) → (s ≢ level → getD m′ (lengths + s) 0 ≡ getD m (lengths + s) 0) →
+      ¬ ((s ≡ level) × (p ≡ position)) → lengthsAt lengths m′ s p ≡ lengthsAt lengths m s p
   length-other s p h d =
       by-cases (ℕ-discrete s level) (λ (z : s ≡ level). rw (z, e) (update-other _ position n (λ y. d (z, y)))) (λ (z : s ≢ level). rw (h z))
 
@@ -156,7 +157,8 @@ module _ (read : Reading) (lengths from : ℕ) (m : List ℕ) (level position : 
   row-kept w = getD-set-other m at row w 0 (omega arith)
 
   -- a word of tags, and its length
-  queue-stored : (w v n : ℕ) (l : List ℕ) → lengthIn v ≡ update (lengthIn (getD m row 0)) position n → read level w n ≡ l → Changed read lengths from m (set (set m at w) row v) level position l
+  queue-stored : (w v n : ℕ) (l : List ℕ) → lengthIn v ≡ update (lengthIn (getD m row 0)) position n → read level w n ≡ l →
+      Changed read lengths from m (set (set m at w) row v) level position l
   queue-stored w v n l e =
       changed (set (set m at w) row v) w n l (rw (length-set, length-set) fits)
       (getD-set-other (set m at w) row at v 0 (omega arith) ∙ getD-set-same m at w 0 (omega arith))
@@ -170,7 +172,8 @@ module _ (read : Reading) (lengths from : ℕ) (m : List ℕ) (level position : 
       (rw (row-kept w) (sym (update-idle (lengthIn (getD m row 0)) position))) (λ k f g. getD-set-other m at k w 0 f)
 
   -- its length alone
-  queue-cut : (v n : ℕ) (l : List ℕ) → lengthIn v ≡ update (lengthIn (getD m row 0)) position n → read level (getD m at 0) n ≡ l → Changed read lengths from m (set m row v) level position l
+  queue-cut : (v n : ℕ) (l : List ℕ) → lengthIn v ≡ update (lengthIn (getD m row 0)) position n →
+      read level (getD m at 0) n ≡ l → Changed read lengths from m (set m row v) level position l
   queue-cut v n l e =
       changed (set m row v) (getD m at 0) n l (rw length-set fits)
       (getD-set-other m row at v 0 (omega arith)) (rw (getD-set-same m row v 0 (omega arith)) e) (λ k f g. getD-set-other m row k v 0 g)
@@ -190,7 +193,8 @@ module _ (read : Reading) (lengths from : ℕ) (m : List ℕ) (level position : 
         (tags w (n - 1) ∙ down-less n (byteIn w) (omega (arith, ap length here, length-down n (byteIn w))) ∙ ap (drop 1) (sym here))
 
     -- a word of tags, and its length as it is after the word is written
-    tags-stored : (w v k n : ℕ) → k ≡ n → lengthIn v ≡ update (lengthIn (getD (set m at w) row 0)) position k → Changed read lengths from m (set (set m at w) row v) level position (tagsIn w n)
+    tags-stored : (w v k n : ℕ) → k ≡ n → lengthIn v ≡ update (lengthIn (getD (set m at w) row 0)) position k →
+        Changed read lengths from m (set (set m at w) row v) level position (tagsIn w n)
     tags-stored w v k n z e = queue-stored w v n (tagsIn w n) (rw (row-kept w, z) at e) (tags w n)
 
 module _ (m : List ℕ) (fits : length m ≡ size) (level position : ℕ) (on : (level < 5) × (position < 16)) where
@@ -215,7 +219,8 @@ module _ (m : List ℕ) (fits : length m ≡ size) (level position : ℕ) (on : 
     requests-stored w v k n z e =
         requests-changed (tags-stored asRequests atRequestLengths atRequests m level position (omega arith) on fits (requests-above a) _ (requests-here m level position on a) w v k n z e)
 
-    pub request-popped : (v : ℕ) → 0 < length (view m .requests level position) → lengthIn v ≡ update (lengthIn (getD m requestRow 0)) position (lengthIn (getD m requestRow 0) position - 1) →
+    pub request-popped : (v : ℕ) → 0 < length (view m .requests level position) →
+        lengthIn v ≡ update (lengthIn (getD m requestRow 0)) position (lengthIn (getD m requestRow 0) position - 1) →
         Becomes (set m requestRow v) (withRequests (view m) level position (drop 1 (view m .requests level position)))
     request-popped v h e =
         requests-changed (queue-popped asRequests atRequestLengths atRequests m level position (omega arith) on fits (requests-above a) _ (requests-here m level position on a) v h e)
