@@ -19,7 +19,8 @@ use Rattle.operation.specs.declared.Operation.{Operation}
 use Rattle.operation.specs.declared.Merged.the-variants.{One, Never}
 use Rattle.machine.specs.Setup.{Message}
 use Rattle.machine.specs.Arrival as machine
-use Rattle.view.specs.View.{Pair, View, withCarried}
+use Rattle.lists.specs.Pair.{Pair}
+use Rattle.view.specs.View.{View, withCarried}
 use Rattle.shown.specs.Network.{Network, setup}
 use Rattle.shown.specs.Shown.{operationIn, messageOf, recordOf}
 use Rattle.shown.proofs.Mapped.{map-append, count-map}

@@ -11,7 +11,8 @@ use Rattle.lists.specs.Count.{count, Distinct}
 use Rattle.operation.specs.declared.Words.{Words}
 use Rattle.machine.specs.Arrival as machine
 use Rattle.words.specs.Digits.{byteIn}
-use Rattle.view.specs.View.{Pair, View}
+use Rattle.lists.specs.Pair.{Pair}
+use Rattle.view.specs.View.{View}
 use Rattle.shown.specs.Network.{Network, setup}
 use Rattle.shown.specs.Shown.{messageOf}
 use Rattle.shown.specs.Landing.{Came, cameMerged, cameAppended, cameRefused, nodeOf, arrivalOf}

@@ -12,7 +12,7 @@ use Rattle.lists.specs.Table.{listBelow}
 use Rattle.lists.specs.Search.{firstOf, found}
 use Rattle.lists.proofs.Below.{getD-below, below-same, below-without, firstOf-below, firstOf-below-none, getD-down, down-push}
 use Rattle.words.specs.Digits.{byteIn, Pushed, Topped, Without, PlaceOf}
-use Rattle.view.specs.View.{Pair}
+use Rattle.lists.specs.Pair.{Pair}
 use Rattle.queue.specs.Queue.{tagsIn, pairIn, pairsIn, noPair, foundAt}
 use Rattle.queue.specs.declared.Place.the-variants.{At, Nowhere}
 

@@ -5,7 +5,7 @@ use lib.ListN.{getD, take, drop}
 use Rattle.lists.specs.Table.{listBelow, downFrom}
 use Rattle.lists.specs.Search.{Found, absent, found}
 use Rattle.words.specs.Digits.{byteIn}
-use Rattle.view.specs.View.{Pair}
+use Rattle.lists.specs.Pair.{Pair}
 use Rattle.queue.specs.declared.Tags.{Tags}
 use Rattle.queue.specs.declared.Pairs.{Pairs}
 use Rattle.queue.specs.declared.Place.{Place}

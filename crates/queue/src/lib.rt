@@ -7,7 +7,7 @@ ghost use lib.ListN.{getD, take, drop};
 ghost use lib.Dec.{eqb};
 ghost use Rattle.lists.specs.Search.{firstOf};
 ghost use Rattle.words.specs.Digits.{byteIn};
-ghost use Rattle.view.specs.View.{Pair};
+ghost use Rattle.lists.specs.Pair.{Pair};
 ghost use Rattle.queue.specs.Queue.{tagsOf, pairsOf, HeldTags, HeldPairs, foundAt};
 
 // A request queue or a reply queue: the youngest tag in the lowest byte.

@@ -14,7 +14,8 @@ use Rattle.lists.specs.Table.{listBelow}
 use Rattle.lists.proofs.Below.{below-add}
 use Rattle.words.specs.Digits.{byteIn}
 use Rattle.wiring.specs.Wiring.{positionOn}
-use Rattle.view.specs.View.{Pair, View, withOrder}
+use Rattle.lists.specs.Pair.{Pair}
+use Rattle.view.specs.View.{View, withOrder}
 use Rattle.queue.specs.Queue.{pairIn, pairsIn}
 use Rattle.shown.specs.Shown.{secondsFor, tagsFor}
 use Rattle.store.specs.Layout.{size}

@@ -16,7 +16,8 @@ use Rattle.operation.specs.Operation.{applied}
 use Rattle.operation.specs.declared.Operation.{Operation}
 use Rattle.operation.specs.declared.Words.{Words}
 use Rattle.wiring.specs.Wiring.{positionOn}
-use Rattle.view.specs.View.{Pair, View, withReplies, withCarried, withWaits}
+use Rattle.lists.specs.Pair.{Pair}
+use Rattle.view.specs.View.{View, withReplies, withCarried, withWaits}
 use Rattle.queue.specs.Queue.{pairIn, pairsOf, noPair, foundAt}
 use Rattle.queue.specs.declared.Pairs.{Pairs}
 use Rattle.queue.specs.declared.Place.{Place}

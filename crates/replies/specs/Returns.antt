@@ -7,7 +7,8 @@ use lib.ListN.{length, getD, take, drop}
 use Rattle.lists.specs.Choice.{choose}
 use Rattle.operation.specs.Operation.{applied}
 use Rattle.wiring.specs.Wiring.{positionOn}
-use Rattle.view.specs.View.{Pair, View, withCarried, withReplies, withWaits}
+use Rattle.lists.specs.Pair.{Pair}
+use Rattle.view.specs.View.{View, withCarried, withReplies, withWaits}
 use Rattle.shown.specs.Shown.{operationIn, valued}
 use Rattle.queue.specs.Queue.{noPair}
 use Rattle.store.specs.Layout.{size}

@@ -13,7 +13,8 @@ use Rattle.lists.proofs.Below.{length-below, length-down}
 use Rattle.words.specs.Digits.{byteIn}
 use Rattle.operation.specs.declared.Words.{Words}
 use Rattle.machine.specs.Arrival.{arrive}
-use Rattle.view.specs.View.{Pair, View, withRequests, withWaits, withMerge}
+use Rattle.lists.specs.Pair.{Pair}
+use Rattle.view.specs.View.{View, withRequests, withWaits, withMerge}
 use Rattle.shown.specs.Network.{Network, setup}
 use Rattle.shown.specs.Shown.{messageOf}
 use Rattle.shown.specs.Landing.{Came, cameMerged, cameAppended, cameRefused, nodeOf, arrivalOf, mergesAfter, withNode, Landed}

@@ -14,7 +14,8 @@ use Rattle.lists.proofs.Tables.{update-same, update-other, update2-same, update
 use Rattle.operation.specs.declared.Words.{Words}
 use Rattle.machine.specs.Setup.{Setup, Message, WaitRecord, Reply}
 use Rattle.machine.specs.State.{State}
-use Rattle.view.specs.View.{Pair, View, withCarried, withRequests}
+use Rattle.lists.specs.Pair.{Pair}
+use Rattle.view.specs.View.{View, withCarried, withRequests}
 use Rattle.shown.specs.Network.{Network, setup}
 use Rattle.shown.specs.Shown.{unissued, messageOf, recordOf, replyOf, answerOf, tagsAt}
 use Rattle.shown.proofs.Mapped.{map-same, map-append, counted-all}

@@ -14,7 +14,8 @@ use Rattle.machine.specs.Arrival.{recordsOf}
 use Rattle.machine.specs.State.{standsFor, seconds}
 use Rattle.machine.specs.Order.{requested}
 use Rattle.machine.specs.Sound.{Sound}
-use Rattle.view.specs.View.{Pair, View}
+use Rattle.lists.specs.Pair.{Pair}
+use Rattle.view.specs.View.{View}
 use Rattle.shown.specs.Network.{Network, setup, Fits}
 use Rattle.shown.specs.Shown.{messageOf, recordOf, shown, secondsFor, tagsFor}
 use Rattle.shown.proofs.Apart.{Apart, tags-apart, waits-below, oldest-requested}

@@ -16,7 +16,8 @@ use Rattle.machine.specs.Setup.{Reply, place}
 use Rattle.machine.specs.Arrival.{arrive}
 use Rattle.machine.specs.Order.{Where, requested, waiting, replying, answered}
 use Rattle.machine.specs.Steps.{sent, nodeAt, forwardStep}
-use Rattle.view.specs.View.{Pair, View, withRequests}
+use Rattle.lists.specs.Pair.{Pair}
+use Rattle.view.specs.View.{View, withRequests}
 use Rattle.shown.specs.Network.{Network, setup, ofEngine}
 use Rattle.shown.specs.Shown.{unissued, messageOf, recordOf, replyOf, answerOf, tagsAt, shown}
 use Rattle.shown.specs.Landing.{Came, cameRefused, nodeOf, arrivalOf, mergesAfter, withNode, Landed}

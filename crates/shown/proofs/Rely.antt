@@ -11,7 +11,8 @@ use Rattle.wiring.specs.Wiring.{positionOn, moduleOf}
 use Rattle.wiring.proofs.Laws.{position-below}
 use Rattle.machine.specs.Order.{requested, waiting, replying}
 use Rattle.machine.specs.Sound.{Sound}
-use Rattle.view.specs.View.{Pair, View}
+use Rattle.lists.specs.Pair.{Pair}
+use Rattle.view.specs.View.{View}
 use Rattle.shown.specs.Network.{Network, setup, Fits}
 use Rattle.shown.specs.Shown.{unissued, shown, oldestPair}
 use Rattle.shown.proofs.Apart.{Apart, oldest-requested, oldest-replying, pair-waiting}

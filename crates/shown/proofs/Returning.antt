@@ -20,7 +20,8 @@ use Rattle.machine.specs.Arrival.{oldestOf}
 use Rattle.machine.specs.Steps.{answered, returnOldest, returnStep}
 use Rattle.machine.specs.Order.{requested, waiting, replying}
 use Rattle.machine.specs.Sound.{Sound}
-use Rattle.view.specs.View.{Pair, View, withReplies, withWaits, withCarried}
+use Rattle.lists.specs.Pair.{Pair}
+use Rattle.view.specs.View.{View, withReplies, withWaits, withCarried}
 use Rattle.shown.specs.Network.{Network, setup, Fits}
 use Rattle.shown.specs.Shown.{operationIn, valued, recordOf, replyOf, tagsAt, shown, oldestPair}
 use Rattle.shown.proofs.Mapped.{foundMap, firstOf-map, map-append}

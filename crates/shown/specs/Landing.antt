@@ -7,7 +7,8 @@ use Rattle.lists.specs.Count.{count}
 use Rattle.lists.specs.Table.{update2}
 use Rattle.operation.specs.declared.Words.{Words}
 use Rattle.machine.specs.Arrival.{Node, Arrival, merged, appended, refused, arrive}
-use Rattle.view.specs.View.{Pair, View}
+use Rattle.lists.specs.Pair.{Pair}
+use Rattle.view.specs.View.{View}
 use Rattle.shown.specs.Network.{Network, setup}
 use Rattle.shown.specs.Shown.{messageOf, recordOf}
 

@@ -11,7 +11,8 @@ use Rattle.operation.specs.declared.Words.{Words}
 use Rattle.wiring.specs.Wiring.{positionOn}
 use Rattle.machine.specs.Setup.{Message, WaitRecord, Reply}
 use Rattle.machine.specs.State.{State}
-use Rattle.view.specs.View.{Pair, View}
+use Rattle.lists.specs.Pair.{Pair}
+use Rattle.view.specs.View.{View}
 use Rattle.shown.specs.Network.{Network, setup, ofEngine}
 
 -- the operation that a tag carries; what it carries once it is answered with a value

@@ -10,7 +10,8 @@ use Rattle.lists.specs.Choice.{choose, both}
 use Rattle.lists.specs.Table.{listBelow}
 use Rattle.operation.specs.declared.Words.{Words}
 use Rattle.words.specs.Digits.{lengthIn, byteIn, bitIn}
-use Rattle.view.specs.View.{Pair, Fixed, View}
+use Rattle.lists.specs.Pair.{Pair}
+use Rattle.view.specs.View.{Fixed, View}
 use Rattle.queue.specs.Queue.{tagsIn, pairsIn}
 use Rattle.store.specs.Layout.{size, atK, atQ, atW, atCount, atEvery, atAnswered, atOrdered, atAccesses, atMerges, atRounds, atRequestLengths, atReplyLengths, atWaitLengths}
 use Rattle.store.specs.Layout.{atOrder, atRequests, atReplies, atFirsts, atSeconds, atHeads, atFirstOperands, atSecondOperands}

@@ -18,9 +18,7 @@ use Rattle.trace.specs.Write.{bytes, bodyOf, recordOf, traceOf}
 use Rattle.trace.specs.Ranges.{ActIn}
 use Rattle.trace.specs.Acts.{itemOf, actSize, ActFits, actsSize, actOffset, actsWritten, Left, due}
 use Rattle.trace.specs.declared.acts.Due.the-variants.{End, Event as EventDue, Drain}
-use Rattle.trace.specs.declared.Facts.{Facts}
 use Rattle.trace.proofs.Tests.{clash}
-use Rattle.trace.proofs.Answers.{Opened}
 use Rattle.trace.proofs.Numbers.{number-drop, number-bytes}
 use Rattle.trace.proofs.Written.{length-record, records-written}
 use Rattle.trace.proofs.Accept.{accepted-is, length-trace}
@@ -218,7 +216,3 @@ left-same s at (a ∷ l) (b ∷ m) x y =
   where
     item-same : {p q : Item} {u v : Records} → next p u ≡ next q v → p ≡ q
     item-same h = cc
-
--- at the offset that an accepted trace is told all its acts are left
-pub opened-left : {s : List ℕ} {facts : Facts} {words m : List ℕ} → AreBytes s → (o : Opened s facts words m) → Left s (facts .«acts_at») (actsOf (o .items))
-opened-left {s} are o = rw (ap (λ (f : Facts). f .«acts_at») (o .facts-are)) (left-start s (o .items) are (o .accepts))

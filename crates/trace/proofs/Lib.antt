@@ -7,13 +7,10 @@ pub mod Written
 pub mod Accept
 pub mod Ranges
 pub mod ActsLeft
-pub mod Machine
 pub mod Known
-pub mod Verdicts
 pub mod Masks
 pub mod Events
 pub mod Runs
-pub mod Requests
 pub mod Levels
 pub mod Answers
 pub mod Held

@@ -16,14 +16,13 @@ use Rattle.trace.specs.Contents.{shapeOf, sectionOf, section, lastSectio
 use Rattle.trace.specs.Refusals.{fault, orElse, mayFollow, ownFault}
 use Rattle.trace.specs.Check.{decide, checkRecords}
 use Rattle.trace.specs.Acts.{itemOf, actSize}
-use Rattle.trace.specs.Loop.{Same, Passed, DrainsPassed, FourDrains, Onward}
+use Rattle.trace.specs.Known.{Same, Passed, DrainsPassed, FourDrains}
 use Rattle.trace.specs.Masked.{Mask, Steps, TellsEvent}
-use Rattle.trace.specs.declared.progress.Progress.{Progress}
 use Rattle.trace.proofs.Tests.{clash}
 use Rattle.trace.proofs.Numbers.{number-drop, number-join, number-below}
 use Rattle.trace.proofs.Records.{Whole, is-whole, body-long, records-whole}
 use Rattle.trace.proofs.Events.{header-of, event-stands}
-use Rattle.trace.proofs.Known.{act-same, act-section, known-same, loaded-same}
+use Rattle.trace.proofs.Known.{act-same, act-section}
 
 -- acts, one by one
 pub passed-start : (s : List ℕ) (k at : ℕ) → at ≤ length s → Passed s k at at
@@ -177,33 +176,3 @@ passed-then p q = record {
         verdict = r .verdict ∙ t .verdict;
       };
 }
-
--- the loop goes on behind a run of acts
-pub onward-run : (s : List ℕ) (p : Progress) (end : ℕ) → Passed s (p .k) (p .at) end → p .section ≡ 4 →
-    Onward s p (record { at = end; section = p .section; k = p .k; q = p .q; w = p .w; requests = p .requests; «acts_at» = p .«acts_at» })
-onward-run s p end passed section-is = record {
-  onward = passed .onward;
-  inside = λ marks words m i.
-      let so = i .so-far in
-      let r = passed .run (so .before) (sym (so .known .section-is) ∙ section-is) (sym (so .known .k-is)) in
-      record {
-        short = i .short;
-        at-inside = passed .inside;
-        room = record {
-          acts-at-low = omega (arith, i .room .acts-at-low, passed .onward);
-          requests-low = i .room .requests-low;
-          marks-size = i .room .marks-size;
-          words-size = i .room .words-size;
-        };
-        so-far = record {
-          before = r .all;
-          known = known-same (r .same) (so .known) (omega (arith, r .size-is, so .known .at-is)) (section-is ∙ sym (r .last-is)) refl refl refl refl refl;
-          marks-sized = so .marks-sized;
-          loaded = loaded-same (r .same) (so .loaded);
-          verdict = so .verdict ∙ r .verdict;
-        };
-      };
-}
-
-pub onward-same : (s : List ℕ) (p : Progress) → Onward s p p
-onward-same s p = record { onward = omega arith; inside = λ marks words m i. i }

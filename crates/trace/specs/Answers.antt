@@ -2,15 +2,11 @@
 use Prim.Native.Nat.{ℕ, _+_, _≤_, _<_}
 use mathlib.Core.List.{List}
 use mathlib.Core.Path.{_≡_}
-use lib.ListN.{length, getD, take, drop}
-use Rattle.lists.specs.Choice.{choose}
-use Rattle.store.specs.Layout.{size as machineSize}
-use Rattle.store.specs.Memory.{view}
+use lib.ListN.{length, take, drop}
 use Rattle.trace.specs.Bytes.{Split, nothing, faulty, whole, bodySize, split}
 use Rattle.trace.specs.Item.{Items, size}
-use Rattle.trace.specs.Contents.{shapeOf, wordsGiven, requestsOf, given, startWords, actsAt}
-use Rattle.trace.specs.Machine.{RequestsHeld}
-use Rattle.trace.specs.Check.{Verdict, refused, accepted, itemsOf, check}
+use Rattle.trace.specs.Contents.{shapeOf, requestsOf, actsAt}
+use Rattle.trace.specs.Check.{Verdict, refused, accepted}
 use Rattle.trace.specs.declared.Fault.{Fault}
 use Rattle.trace.specs.declared.Fault.the-variants.{Cut, Kind, Length, Order, Range, Twice, Operand, Step, Many, Long}
 use Rattle.trace.specs.declared.record.Head.{Head}
@@ -73,12 +69,3 @@ answered (accepted xs) = acceptance (factsOf xs)
 abbrev pub tells : Answer → TraceTold
 tells (Refused f at) = refusal (numberOf f) at
 tells (Accepted facts) = acceptance facts
-
--- the answer, and the marks, the memory and the machine m after a trace is loaded: those of the items before the fault, where there is one
-pub record Loaded (s : List ℕ) (r : Answer) (marks words m : List ℕ) : Type 0 where
-  pub answer : tells r ≡ answered (check s)
-  pub marks-sized : length marks ≡ 256
-  pub marks-are : (a : ℕ) → a < 256 → getD marks a 0 ≡ choose (given (wordsGiven (itemsOf (check s))) a) 1 0
-  pub words-are : words ≡ startWords (wordsGiven (itemsOf (check s)))
-  pub sized : length m ≡ machineSize
-  pub requests-are : RequestsHeld (shapeOf (itemsOf (check s)) .k) (requestsOf (itemsOf (check s))) (view m)

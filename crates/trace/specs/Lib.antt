@@ -3,10 +3,9 @@ pub mod Item
 pub mod Contents
 pub mod Refusals
 pub mod Check
-pub mod Machine
 pub mod Answers
 pub mod Write
 pub mod Ranges
 pub mod Acts
 pub mod Masked
-pub mod Loop
+pub mod Known

@@ -10,21 +10,21 @@ fn wide(x: u8) -> u64
     x as u64
 }
 
-pub(crate) fn number2(s: &[u8], i: usize) -> u64
+pub fn number2(s: &[u8], i: usize) -> u64
     requires { ⌜ i + 2 ≤ length (now s) ⌝ }
     ensures { λ r. ⌜ (r ≡ number 2 (now (s .entry)) i) × (r < 65536) ⌝ }
 {
     wide(s[i]) + 256 * wide(s[i + 1])
 }
 
-pub(crate) fn number4(s: &[u8], i: usize) -> u64
+pub fn number4(s: &[u8], i: usize) -> u64
     requires { ⌜ i + 4 ≤ length (now s) ⌝ }
     ensures { λ r. ⌜ (r ≡ number 4 (now (s .entry)) i) × (r < 4294967296) ⌝ }
 {
     number2(s, i) + 65536 * number2(s, i + 2)
 }
 
-pub(crate) fn number8(s: &[u8], i: usize) -> u64
+pub fn number8(s: &[u8], i: usize) -> u64
     requires { ⌜ i + 8 ≤ length (now s) ⌝ }
     ensures { λ r. ⌜ r ≡ number 8 (now (s .entry)) i ⌝ }
 {

@@ -1,22 +1,15 @@
-// The records of a trace, and the check of a whole trace: document 01, "Trace records" and "What a trace is told".
+// The records of a trace, and what each is refused for: document 01, "Trace records" and "What a trace is told".
 ghost use mathlib.Core.Path.{_≡_};
-ghost use lib.ListN.{replicate};
-ghost use Rattle.store.specs.Layout.{size as machineSize};
-ghost use Rattle.trace.specs.Check.{check as verdict};
-ghost use Rattle.trace.specs.Answers.{numberOf, answered, tells, Loaded};
-ghost use Rattle.trace.specs.Loop.{reading};
-use progress::Progress;
-use store::Machine;
-use turn::Turn;
+ghost use Rattle.trace.specs.Answers.{numberOf};
 
 pub mod acts;
-mod bytes;
+pub mod bytes;
 mod masked;
-mod progress;
+pub mod passed;
+pub mod progress;
 pub mod reader;
 pub mod record;
-mod rules;
-mod turn;
+pub mod rules;
 
 // What a trace is refused for, in the order of the paper's numbers, from 1.
 pub enum Fault {
@@ -62,57 +55,4 @@ pub fn number_of(f: Fault) -> u8
         Fault::Many => 9,
         Fault::Long => 10,
     }
-}
-
-// What a trace is told, and nothing else.
-pub fn check(s: &[u8]) -> Answer
-    ensures { λ r. ⌜ tells r ≡ answered (verdict (now (s .entry))) ⌝ }
-{
-    let mut given = [0u8; 256];
-    let mut words = [0u64; 256];
-    let mut m = [0u64; store::SIZE];
-    load(s, &mut given, &mut words, &mut m)
-}
-
-// What a trace is told; which addresses its words have, its starting words and its requests go into the marks, the memory and
-// the machine, which are zeros before.
-pub fn load(s: &[u8], given: &mut [u8; 256], words: &mut [u64; 256], m: &mut Machine) -> Answer
-    requires { ⌜ (now given ≡ replicate 256 0) × (now words ≡ replicate 256 0) × (now m ≡ replicate machineSize 0) ⌝ }
-    ensures { λ r. ⌜ Loaded (now (s .entry)) r (now (given .exit)) (now (words .exit)) (now (m .exit)) ⌝ }
-{
-    if s.len() > 65536 {
-        return Answer::Refused(Fault::Long, 0);
-    }
-    let mut p = Progress::start();
-    loop {
-        let t = turn::one_turn(s, p, given, words, m);
-        match t {
-            Turn::Stop => {
-                return ended(p);
-            }
-            Turn::Fail(f) => {
-                return Answer::Refused(f, p.at);
-            }
-            Turn::Go(q) => {
-                let r = turn::past_requests(s, q, m);
-                p = turn::past_acts(s, r);
-            }
-        }
-    }
-}
-
-// The answer where the trace ends.
-fn ended(p: Progress) -> Answer
-    ensures { λ r. ⌜ r ≡ reading p ⌝ }
-{
-    if p.section == 0 {
-        return Answer::Refused(Fault::Order, 0);
-    }
-    Answer::Accepted(Facts {
-        k: p.k,
-        q: p.q,
-        w: p.w,
-        requests: p.requests,
-        acts_at: p.acts_at,
-    })
 }

@@ -8,7 +8,7 @@ ghost use Rattle.trace.specs.Bytes.{bodySize};
 ghost use Rattle.trace.specs.Item.{item, shapeIn, requestIn, eventIn};
 ghost use Rattle.trace.specs.Contents.{sectionOf};
 ghost use Rattle.trace.specs.Refusals.{mayFollow, shapeFits, requestFits, unless, orElse};
-ghost use Rattle.trace.specs.Loop.{findingNumber, OwnFault, RecordFault};
+ghost use Rattle.trace.specs.Known.{findingNumber, OwnFault, RecordFault};
 use crate::Fault;
 use crate::bytes::number8;
 use crate::progress::Progress;
@@ -108,7 +108,7 @@ fn word_fault(b: &[u8], marks: &[u8; 256]) -> Finding
     Finding::Faulty(Fault::Twice)
 }
 
-pub(crate) fn request_fault(b: &[u8], k: u8, requests: usize) -> Finding
+pub fn request_fault(b: &[u8], k: u8, requests: usize) -> Finding
     requires { ⌜ (length (now b) ≡ 19) × (k ≤ 4) ⌝ }
     ensures { λ r. ⌜ findingNumber r ≡ orElse (unless (ltb requests 256) 9) (unless (requestFits k (requestIn (now (b .entry)))) 7) ⌝ }
 {

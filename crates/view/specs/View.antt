@@ -4,12 +4,8 @@ use mathlib.Core.Bool.{Bool, true, false}
 use mathlib.Core.List.{List, [], _∷_, _++_}
 use lib.Dec.{ltb}
 use Rattle.lists.specs.Table.{update, update2}
+use Rattle.lists.specs.Pair.{Pair}
 use Rattle.operation.specs.declared.Words.{Words}
-
--- "A wait record holds the first tag, the second tag": its operation is the one that the second tag carries
-pub record Pair : Type 0 where
-  pub first : ℕ
-  pub second : ℕ
 
 -- What no step changes: the shape, the number of requests and a mark for each of them; of each tag its address, the path of its
 -- request, and the engine's next request (or the number of requests).
@@ -24,7 +20,7 @@ pub record Fixed : Type 0 where
   pub after : ℕ → ℕ
 
 -- Queues and wait buffers are by level and position, oldest first; at level 0 a request queue has the engine's next unissued request
--- alone. A request is in one place at a time, so what a message, a wait record, a reply or an answer carries stands by tag: the
+-- alone. "A wait record holds the first tag, the second tag": a pair, whose operation is the one that the second tag carries. A request is in one place at a time, so what a message, a wait record, a reply or an answer carries stands by tag: the
 -- operation's code and operands, or the value as the first of them.
 pub record View : Type 0 where
   pub fixed : Fixed

@@ -1,0 +1,86 @@
+use mathlib.Core.Path.{_∙_, sym}
+use native.Mathlib.Omega.{arith}
+use denote.Ref.{now}
+use borrow.Author.Needs.{needs}
+use Rattle.load.proofs.Verdicts.{turn-stop, turn-bad, turn-fault, turn-go, few-requests, low-engine}
+use Rattle.trace.proofs.Records.{Body, body-at}
+use Rattle.load.proofs.turn.one_turn.Statement.{statement}
+use Rattle.load.proofs.turn.one_turn.Tie as tie
+
+at-body : (c : tie.After-body) →
+    let d = c .before .before .before .before .before .before .args in
+    Body (now (d .s)) (d .p .at) (c .before .before .found2 .given .0 .0) (c .before .before .found2 .given .0 .1 .0) (now (c .body .result))
+at-body c =
+    let told = c .before .before .found2 .given .1 in
+    let head = c .before .before .before .before .head-due .ensures in
+    body-at (rw told at (head .says)) (rw told at (head .fits)) (c .body .ensures)
+
+head-due-requires : tie.Need-head-due-requires
+head-due-requires c κs = search needs
+
+enum-told : tie.Need-enum-told
+enum-told c = search needs
+
+enum-known-found : tie.Need-enum-known-found
+enum-known-found c = search needs
+
+enum-known-found-2 : tie.Need-enum-known-found-2
+enum-known-found-2 c = search needs
+
+body-requires : tie.Need-body-requires
+body-requires c κs = rw (c .before .found2 .given .1) at (c .before .before .before .head-due .ensures .fits) .inside
+
+record-fault-requires : tie.Need-record-fault-requires
+record-fault-requires c κs = let h = at-body (c .before) in let i = c .before .before .before .before .before .before .before .pre in (h .long ∙ h .fits .right, i .room .marks-size, i .so-far .known .k-low)
+
+enum-told-2 : tie.Need-enum-told-2
+enum-told-2 c = search needs
+
+noted-requires : tie.Need-noted-requires
+noted-requires c κs = let h = at-body (c .before .before .before .before .before .before .before) in
+    let i = c .before .before .before .before .before .before .before .before .before .before .before .before .before .pre in
+    let found = rw (c .before .before .before .enum-told2 .given .1) at (c .before .before .before .before .before .record-fault .ensures) in
+    record {
+      body-size = h .long ∙ h .fits .right;
+      at-low = omega (arith, i .at-inside, i .short);
+      k-low = i .so-far .known .k-low;
+      few = few-requests i (h .stands) found;
+      engine-below = low-engine i (h .stands) found;
+      room = i .room;
+      sized = i .so-far .loaded .sized;
+    }
+
+enum-known-finding : tie.Need-enum-known-finding
+enum-known-finding c = search needs
+
+returns : tie.Need-returns
+returns c = turn-stop (c .before .before .before .before .pre) (sym (rw (c .enum-told .given .1) at (c .before .before .head-due .ensures .says)))
+
+returns-2 : tie.Need-returns-2
+returns-2 c = turn-bad (c .before .before .before .before .before .pre) (c .before .found .given .0 .0) (sym (rw (c .before .found .given .1) at (c .before .before .before .head-due .ensures .says)))
+
+returns-3 : tie.Need-returns-3
+returns-3 c = let h = at-body (c .before .before .before .before .before .before .before .before) in let i = c .before .before .before .before .before .before .before .before .before .before .before .before .before .before .pre in
+    turn-go i (h .stands) (h .fits) (h .long) (rw (c .before .before .before .before .enum-told2 .given .1) at (c .before .before .before .before .before .before .record-fault .ensures)) (c .noted .result) _ _ _ (c .noted .ensures)
+
+returns-4 : tie.Need-returns-4
+returns-4 c = let h = at-body (c .before .before .before .before .before) in let i = c .before .before .before .before .before .before .before .before .before .before .before .pre in
+    turn-fault i (h .stands) (c .before .finding .given .0 .0) (rw (c .before .finding .given .1) at (c .before .before .before .record-fault .ensures))
+
+pub one-turn-spec : {M : Type 1} → statement M
+one-turn-spec =
+    tie.close
+    (tie.spec
+    head-due-requires
+    enum-told
+    enum-known-found
+    enum-known-found-2
+    body-requires
+    record-fault-requires
+    enum-told-2
+    noted-requires
+    enum-known-finding
+    returns
+    returns-2
+    returns-3
+    returns-4)

@@ -1,0 +1,3 @@
+pub mod Machine
+pub mod Loaded
+pub mod Loop

@@ -1,0 +1,64 @@
+// How a record that is not refused adds to what is known, to the memory and to the machine.
+ghost use mathlib.Core.Path.{_≡_};
+ghost use Prim.Native.Nat.{_≤_, _<_, _^_};
+ghost use lib.ListN.{length, getD, set};
+ghost use Rattle.store.specs.Layout.{size as machineSize};
+ghost use Rattle.trace.specs.Bytes.{number};
+ghost use Rattle.trace.specs.Item.{item, requestIn};
+ghost use Rattle.load.specs.Loop.{MayNote, Keeps, RequestPut};
+use operation::Words;
+use store::Machine;
+use trace::bytes::number8;
+use trace::progress::Progress;
+
+fn put_word(b: &[u8], marks: &mut [u8; 256], words: &mut [u64; 256])
+    requires { ⌜ (length (now b) ≡ 9) × (length (now marks) ≡ 256) × (length (now words) ≡ 256) ⌝ }
+    ensures { λ _. ⌜ now (marks .exit) ≡ set (now (marks .entry)) (getD (now (b .entry)) 0 0) 1 ⌝ }
+    ensures { λ _. ⌜ now (words .exit) ≡ set (now (words .entry)) (getD (now (b .entry)) 0 0) (number 8 (now (b .entry)) 1) ⌝ }
+{
+    let a = b[0] as usize;
+    let v = number8(b, 1);
+    marks[a] = 1;
+    words[a] = v;
+}
+
+pub fn put_request(b: &[u8], k: u8, t: usize, m: &mut Machine)
+    requires { ⌜ (length (now b) ≡ 19) × (k ≤ 4) × (getD (now b) 0 0 < 2 ^ k) × (t < 256) × (length (now m) ≡ machineSize) ⌝ }
+    ensures { λ _. ⌜ RequestPut k (requestIn (now (b .entry))) t (now (m .entry)) (now (m .exit)) ⌝ }
+{
+    let address = b[2];
+    let path = wiring::path_of(k as usize, b[0] as u64, address as u64);
+    let asked = Words {
+        code: b[1] as u64,
+        first: number8(b, 3),
+        second: number8(b, 11),
+    };
+    store::tags::put_request(m, t, address, path, asked);
+}
+
+// Past a record that is not refused.
+pub fn noted(
+    b: &[u8],
+    kind: u64,
+    p: Progress,
+    marks: &mut [u8; 256],
+    words: &mut [u64; 256],
+    m: &mut Machine,
+) -> Progress
+    requires { ⌜ MayNote kind (now b) p (now marks) (now words) (now m) ⌝ }
+    ensures { λ r. ⌜ Keeps (item kind (now (b .entry))) p (now (marks .entry)) (now (words .entry)) (now (m .entry)) r (now (marks .exit)) (now (words .exit)) (now (m .exit)) ⌝ }
+{
+    match kind {
+        1 => p.past_shape(b),
+        2 => {
+            put_word(b, marks, words);
+            p.past(2, 13, 0, 13)
+        }
+        3 => {
+            put_request(b, p.k, p.requests, m);
+            p.past(3, 23, 1, 23)
+        }
+        4 => p.past(4, 7, 0, 0),
+        _ => p.past(4, 6, 0, 0),
+    }
+}
