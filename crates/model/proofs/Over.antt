@@ -9,7 +9,7 @@ use lib.Seq.{drop-at}
 use Rattle.lists.specs.Table.{listBelow}
 use Rattle.lists.proofs.Below.{length-below, getD-below}
 use Rattle.results.specs.Copied.{over}
-use Rattle.model.specs.Result.{valueOf, markOf}
+use Rattle.run.specs.Results.{valueOf, markOf}
 
 -- what is in front of a list put over another, and what is beyond it
 module _ (f : ℕ → ℕ) (n : ℕ) (old : List ℕ) where

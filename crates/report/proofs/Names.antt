@@ -15,10 +15,10 @@ use Rattle.lists.proofs.Below.{below-is}
 use Rattle.store.specs.Memory.{view}
 use Rattle.trace.specs.Item.{Request}
 use Rattle.trace.specs.Contents.{wordsGiven, requestsOf, noRequest, requestAt, given}
-use Rattle.trace.specs.Answers.{Loaded}
+use Rattle.load.specs.Loaded.{Loaded}
 use Rattle.trace.specs.declared.Answer.{Answer}
-use Rattle.model.specs.Report.{asksFor, named}
-use Rattle.model.specs.Run.{itemsIn}
+use Rattle.report.specs.Report.{asksFor, named}
+use Rattle.run.specs.Run.{itemsIn}
 use Rattle.report.specs.Names.{asksBelow, Marked}
 
 -- ---- the addresses of the requests

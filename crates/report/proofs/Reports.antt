@@ -17,17 +17,18 @@ use Rattle.results.specs.Copied.{valueIn, valuesIn, marksIn}
 use Rattle.trace.specs.Bytes.{AreBytes}
 use Rattle.trace.specs.Item.{Items}
 use Rattle.trace.specs.Contents.{requestsOf}
-use Rattle.trace.specs.Answers.{numberOf, Loaded}
+use Rattle.trace.specs.Answers.{numberOf}
+use Rattle.load.specs.Loaded.{Loaded}
 use Rattle.trace.specs.declared.Fault.{Fault}
 use Rattle.trace.specs.declared.Facts.{Facts}
 use Rattle.trace.specs.declared.Answer.{Answer}
 use Rattle.trace.specs.declared.Answer.the-variants.{Refused}
-use Rattle.trace.proofs.Answers.{Closed, loaded-refused}
+use Rattle.load.proofs.Refused.{Closed, loaded-refused}
 use Rattle.trace.proofs.Ranges.{accepted-in-range}
-use Rattle.model.specs.Result.{Results, resultsOf}
-use Rattle.model.specs.Report.{named, textOf, reported, report}
-use Rattle.model.specs.Run.{itemsIn, Loading, RanTo}
-use Rattle.model.proofs.Results.{resultsIn, results-are}
+use Rattle.run.specs.Results.{Results, resultsOf}
+use Rattle.report.specs.Report.{named, textOf, reported, report}
+use Rattle.run.specs.Run.{itemsIn, Loading, RanTo}
+use Rattle.run.proofs.Results.{resultsIn, results-are}
 use Rattle.report.specs.Names.{Marked}
 use Rattle.report.specs.Lines.{Printable, textIn}
 use Rattle.report.specs.Written.{Reported}

@@ -1,3 +1,4 @@
+pub mod Report
 pub mod Written
 pub mod Names
 pub mod Lines

@@ -8,7 +8,7 @@ use lib.Dec.{leb}
 use Rattle.lists.specs.Choice.{choose}
 use Rattle.text.specs.Written.{reportRoom}
 use Rattle.results.specs.Copied.{over}
-use Rattle.model.specs.Report.{report}
+use Rattle.report.specs.Report.{report}
 use Rattle.report.specs.declared.Written.{Written}
 
 -- the text at the start of a buffer that has room for every report, and its length; a smaller buffer stays as it is

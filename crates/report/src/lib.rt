@@ -8,7 +8,7 @@ ghost use Prim.Native.Nat.{_+_, _*_, _≤_};
 ghost use lib.ListN.{length};
 ghost use Rattle.text.specs.Written.{Wrote, Reported as Printed, lineRoom, reportRoom};
 ghost use Rattle.store.specs.Memory.{view};
-ghost use Rattle.model.specs.Report.{report as text};
+ghost use Rattle.report.specs.Report.{report as text};
 ghost use Rattle.report.specs.Names.{Marked};
 ghost use Rattle.report.specs.Lines.{Printable, repliesIn, ordersIn, textIn};
 ghost use Rattle.report.specs.Written.{Reported};
@@ -40,13 +40,13 @@ fn put_report(trace: &[u8], out: &mut [u8]) -> usize
     let mut given = [0u8; 256];
     let mut memory = [0u64; 256];
     let mut m = [0u64; store::SIZE];
-    let told = trace::load(trace, &mut given, &mut memory, &mut m);
+    let told = load::load(trace, &mut given, &mut memory, &mut m);
     match told {
         Answer::Refused(f, at) => text::put_refused(out, trace::number_of(f) as u64, at as u64),
         Answer::Accepted(facts) => {
             let n = facts.requests;
             name_requests(&m, n, &mut given);
-            model::run::from_start(trace, facts, &mut m, &mut memory);
+            run::from_start(trace, facts, &mut m, &mut memory);
             put_results(&m, &memory, &given, out)
         }
     }

@@ -10,7 +10,7 @@ use Rattle.lists.specs.Choice.{choose}
 use Rattle.text.specs.Text.{bytesOf, replyLines, orderLines, wordLines, countLines, acceptedText, refusedText}
 use Rattle.text.specs.Written.{reportRoom}
 use Rattle.trace.specs.Check.{Verdict, refused, accepted, check}
-use Rattle.model.specs.Report.{textOf, reported, report}
+use Rattle.report.specs.Report.{textOf, reported, report}
 use Rattle.whetbracken.specs.Interface.{Wrote}
 
 some-last : (a b c d : List ℕ) → 0 < length d → 0 < length (a ++ b ++ c ++ d)

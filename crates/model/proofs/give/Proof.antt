@@ -1,6 +1,6 @@
 -- `give` meets its contract: each of the four fits, and is copied.
 use borrow.Author.Needs.{needs}
-use Rattle.model.proofs.Results.{values-fit, marks-fit, order-fits, words-fit, copied}
+use Rattle.model.proofs.Given.{values-fit, marks-fit, order-fits, words-fit, copied}
 use Rattle.model.proofs.give.Statement.{statement}
 use Rattle.model.proofs.give.Tie as tie
 

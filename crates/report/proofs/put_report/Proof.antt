@@ -2,7 +2,7 @@
 use mathlib.Core.Path.{refl}
 use native.Mathlib.Omega.{arith}
 use borrow.Author.Needs.{needs}
-use Rattle.model.proofs.Entry.{load-loading}
+use Rattle.run.proofs.Loading.{load-loading}
 use Rattle.report.proofs.Reports.{printed-refused, requests-few, ran-printable, printed-ran}
 use Rattle.report.proofs.put_report.Statement.{statement}
 use Rattle.report.proofs.put_report.Tie as tie

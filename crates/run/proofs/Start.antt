@@ -21,16 +21,16 @@ use Rattle.start.specs.Linked.{Empty, HasRequests, RequestsLoaded, Started}
 use Rattle.trace.specs.Bytes.{AreBytes}
 use Rattle.trace.specs.Item.{Word, Items}
 use Rattle.trace.specs.Contents.{shapeOf, wordsGiven, requestsOf, actsOf, putWords, startWords}
-use Rattle.trace.specs.Machine.{tagsAlone, RequestsHeld}
+use Rattle.load.specs.Machine.{tagsAlone, RequestsHeld}
 use Rattle.trace.specs.Ranges.{ActIn, InRange}
 use Rattle.trace.specs.Acts.{Left}
 use Rattle.trace.specs.declared.Facts.{Facts}
 use Rattle.trace.proofs.Accept.{accepted-is}
 use Rattle.trace.proofs.Ranges.{accepted-in-range}
 use Rattle.trace.proofs.ActsLeft.{left-start}
-use Rattle.model.specs.Result.{wordsAtStart, ranOf}
-use Rattle.model.specs.Run.{itemsIn, networkOf, Loading, ActsReady, ActsRun, RanTo}
-use Rattle.model.proofs.Network.{network-ranges}
+use Rattle.run.specs.Results.{wordsAtStart, ranOf}
+use Rattle.run.specs.Run.{itemsIn, networkOf, Loading, ActsReady, ActsRun, RanTo}
+use Rattle.run.proofs.Network.{network-ranges}
 
 -- ---- the machine with the requests alone
 held-empty : (v : View) → v ≡ tagsAlone v → Empty v

@@ -15,8 +15,8 @@ use Rattle.trace.specs.Item.{Request, Items}
 use Rattle.trace.specs.Contents.{shapeOf, requestsOf, requestAt, actsOf}
 use Rattle.trace.specs.Ranges.{RequestIn, ActIn, InRange}
 use Rattle.trace.proofs.Tests.{both-true}
-use Rattle.model.specs.Result.{setupOf}
-use Rattle.model.specs.Run.{networkOf}
+use Rattle.run.specs.Results.{setupOf}
+use Rattle.run.specs.Run.{networkOf}
 
 engines-below : (k : ℕ) (rs : List Request) → All (RequestIn k) rs → (t : ℕ) → requestAt rs t .engine < 2 ^ k
 engines-below k [] h t = pow-pos k
