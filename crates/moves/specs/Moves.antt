@@ -41,6 +41,13 @@ pub record MovesWith (es : List Event) (m words m′ words′ : List ℕ) : Type
   pub words-sized : length words′ ≡ 256
   pub moved : (x : Network) → Stands x (view m) (wordsIn words) → Moved x es (view m) (wordsIn words) (view m′) (wordsIn words′)
 
+-- the same of the events that the machine's own k tells
+abbrev pub MovesFor : (ℕ → List Event) → List ℕ → List ℕ → Type 0
+MovesFor events m m′ = Moves (events (view m .fixed .k)) m m′
+
+abbrev pub MovesWithFor : (ℕ → List Event) → List ℕ → List ℕ → List ℕ → List ℕ → Type 0
+MovesWithFor events m words m′ words′ = MovesWith (events (view m .fixed .k)) m words m′ words′
+
 -- ---- an arrival
 abbrev pub wentOn : Came → Bool
 wentOn cameMerged = true

@@ -1,5 +1,5 @@
 -- What becomes of a reply one level down, by the way it is taken: level s + 1 is where it stands.
-use Prim.Native.Nat.{ℕ, suc, _≤_}
+use Prim.Native.Nat.{ℕ, suc, _+_, _≤_}
 use mathlib.Core.Path.{_≡_}
 use mathlib.Core.List.{List, [], _∷_, _++_}
 use lib.Dec.{ltb}
@@ -8,8 +8,8 @@ use Rattle.lists.specs.Choice.{choose}
 use Rattle.operation.specs.Operation.{applied}
 use Rattle.wiring.specs.Wiring.{positionOn}
 use Rattle.lists.specs.Pair.{Pair}
-use Rattle.view.specs.View.{View, withCarried, withReplies, withWaits}
-use Rattle.shown.specs.Shown.{operationIn, valued}
+use Rattle.view.specs.View.{View, withCarried, withReplies, withWaits, withOrder}
+use Rattle.shown.specs.Shown.{operationIn, valued, tagsFor}
 use Rattle.queue.specs.Queue.{noPair}
 use Rattle.store.specs.Layout.{size}
 use Rattle.store.specs.Memory.{view}
@@ -17,6 +17,18 @@ use Rattle.store.specs.Memory.{view}
 -- "wait room W 0 to 8"
 pub record WaitsFit (v : View) : Type 0 where
   pub few : (s p : ℕ) → length (v .waits s p) ≤ 8
+
+-- the requests that stand at a module
+abbrev pub atModule : View → ℕ → List ℕ
+atModule v position = v .requests (v .fixed .k) position
+
+-- the requests of t up to a level fit the order list
+abbrev pub ExpansionFits : View → ℕ → ℕ → Type 0
+ExpansionFits v level t = length (v .order) + length (tagsFor (v .fixed .path) (v .waits) level t) ≤ 256
+
+-- and stand at its end
+abbrev pub withExpansion : View → ℕ → ℕ → View
+withExpansion v level t = withOrder v (tagsFor (v .fixed .path) (v .waits) level t)
 
 -- "t itself moves one level down. If the target queue is full nothing changes."
 pub record Lowered (v : View) (s p t : ℕ) (m′ : List ℕ) : Type 0 where

@@ -10,20 +10,19 @@ ghost use mathlib.Core.Path.{_≡_};
 ghost use Prim.Native.Nat.{_+_, _-_, _≤_, _<_};
 ghost use lib.ListN.{length, getD, set};
 ghost use Rattle.operation.specs.Operation.{applied};
-ghost use Rattle.view.specs.View.{withOrder};
-ghost use Rattle.shown.specs.Shown.{operationIn, tagsFor};
+ghost use Rattle.shown.specs.Shown.{operationIn};
 ghost use Rattle.queue.specs.Queue.{pairsOf, HeldPairs};
 ghost use Rattle.store.specs.Layout.{size};
 ghost use Rattle.store.specs.Memory.{view, Becomes};
 ghost use Rattle.shown.specs.Reached.{single};
-ghost use Rattle.moves.specs.Moves.{Ready, ReadyWith, Moves, MovesWith};
-ghost use Rattle.replies.specs.Returns.{Lowered, SplitOff, WaitsFit};
+ghost use Rattle.moves.specs.Moves.{Ready, ReadyWith, Moves, MovesWithFor};
+ghost use Rattle.replies.specs.Returns.{atModule, WaitsFit, ExpansionFits, withExpansion, Lowered, SplitOff};
 
 // "take the oldest message, put (tag, old value) at the end of the reply queue here, store f(old)"
 pub fn module_step(m: &mut Machine, words: &mut [u64; 256], position: usize)
     requires { ⌜ ReadyWith (now m) (now words) ⌝ }
-    requires { ⌜ (position < 16) × (0 < length (view (now m) .requests (view (now m) .fixed .k) position)) ⌝ }
-    ensures { λ _. ⌜ MovesWith (single 2 (view (now (m .entry)) .fixed .k) position) (now (m .entry)) (now (words .entry)) (now (m .exit)) (now (words .exit)) ⌝ }
+    requires { ⌜ (position < 16) × (0 < length (atModule (view (now m)) position)) ⌝ }
+    ensures { λ _. ⌜ MovesWithFor (λ k. single 2 k position) (now (m .entry)) (now (words .entry)) (now (m .exit)) (now (words .exit)) ⌝ }
 {
     let k = shape::levels(m);
     let q = shape::queue_room(m);
@@ -58,8 +57,8 @@ fn expand(m: &mut Machine, level: usize, t: u8)
     requires { ⌜ length (now m) ≡ size ⌝ }
     requires { ⌜ level < 5 ⌝ }
     requires { ⌜ WaitsFit (view (now m)) ⌝ }
-    requires { ⌜ length (view (now m) .order) + length (tagsFor (view (now m) .fixed .path) (view (now m) .waits) level t) ≤ 256 ⌝ }
-    ensures { λ _. ⌜ Becomes (now (m .exit)) (withOrder (view (now (m .entry))) (tagsFor (view (now (m .entry)) .fixed .path) (view (now (m .entry)) .waits) level t)) ⌝ }
+    requires { ⌜ ExpansionFits (view (now m)) level t ⌝ }
+    ensures { λ _. ⌜ Becomes (now (m .exit)) (withExpansion (view (now (m .entry))) level t) ⌝ }
 {
     if level == 0 {
         answers::append_order(m, t);

@@ -6,11 +6,9 @@ use store::queues;
 use store::shape;
 use store::tags;
 ghost use mathlib.Core.Path.{_≡_};
-ghost use Prim.Native.Nat.{_≤_, _<_};
-ghost use lib.Dec.{leb};
+ghost use Prim.Native.Nat.{_<_};
 ghost use lib.ListN.{length};
-ghost use Rattle.lists.specs.Choice.{both};
-ghost use Rattle.node.specs.Node.{ApartAt};
+ghost use Rattle.requests.specs.Arrivals.{isFull, MayArrive};
 ghost use Rattle.store.specs.Layout.{size};
 ghost use Rattle.store.specs.Memory.{view};
 ghost use Rattle.shown.specs.Reached.{single};
@@ -53,8 +51,7 @@ pub fn forward(m: &mut Machine, level: usize, position: usize)
 // Neither the queue nor the wait buffer has room: told before anything is loaded, for that is most of what happens in a jammed network.
 fn is_full(m: &Machine, level: usize, position: usize) -> bool
     requires { ⌜ (0 < level) × (level < 5) × (position < 16) ⌝ }
-    ensures { λ r. ⌜ r ≡ both (leb (view (now (m .entry)) .fixed .q) (length (view (now (m .entry)) .requests level position)))
-        (leb (view (now (m .entry)) .fixed .w) (length (view (now (m .entry)) .waits level position))) ⌝ }
+    ensures { λ r. ⌜ r ≡ isFull (view (now (m .entry))) level position ⌝ }
 {
     if queues::request_count(m, level, position) < shape::queue_room(m) {
         return false;
@@ -65,9 +62,7 @@ fn is_full(m: &Machine, level: usize, position: usize) -> bool
 // The message t arrives at a level and position; whether it could.
 fn arrive_at(m: &mut Machine, t: u8, level: usize, position: usize) -> bool
     requires { ⌜ length (now m) ≡ size ⌝ }
-    requires { ⌜ (0 < level) × (level < 5) × (position < 16) × (length (view (now m) .requests level position) ≤ 4) × (length (view (now m) .waits level position) ≤ 8) ⌝ }
-    requires { ⌜ (view (now m) .fixed .q ≤ 4) × (view (now m) .fixed .w ≤ 8) × (view (now m) .merges < 65536) ⌝ }
-    requires { ⌜ ApartAt t (view (now m) .requests level position) (view (now m) .waits level position) ⌝ }
+    requires { ⌜ MayArrive (view (now m)) t level position ⌝ }
     ensures { λ r. ⌜ Went (view (now (m .entry))) t level position (now (m .exit)) r ⌝ }
 {
     let q = shape::queue_room(m);

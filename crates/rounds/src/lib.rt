@@ -8,7 +8,7 @@ use store::shape;
 ghost use Prim.Native.Nat.{_-_, _≤_, _<_, _^_};
 ghost use Rattle.machine.specs.Run.{row, rowsUp, rowsDown, round as roundEvents};
 ghost use Rattle.store.specs.Memory.{view};
-ghost use Rattle.moves.specs.Moves.{Ready, ReadyWith, Moves, MovesWith};
+ghost use Rattle.moves.specs.Moves.{Ready, ReadyWith, MovesFor, MovesWithFor};
 ghost use Rattle.rounds.specs.Drains.{Drained, AllAnswered};
 
 // "A drain stops when every request is answered or its allowance is spent."
@@ -39,7 +39,7 @@ pub fn all_answered(m: &Machine) -> bool
 // "collects; returns at levels 1 to k; modules; forwards at levels k-1 down to 1; issues; positions ascending"
 fn round(m: &mut Machine, words: &mut [u64; 256])
     requires { ⌜ ReadyWith (now m) (now words) ⌝ }
-    ensures { λ _. ⌜ MovesWith (roundEvents (view (now (m .entry)) .fixed .k) (2 ^ view (now (m .entry)) .fixed .k)) (now (m .entry)) (now (words .entry)) (now (m .exit)) (now (words .exit)) ⌝ }
+    ensures { λ _. ⌜ MovesWithFor (λ k. roundEvents k (2 ^ k)) (now (m .entry)) (now (words .entry)) (now (m .exit)) (now (words .exit)) ⌝ }
 {
     collects(m);
     returns_up(m);
@@ -51,7 +51,7 @@ fn round(m: &mut Machine, words: &mut [u64; 256])
 // "returns at levels 1 to k"
 fn returns_up(m: &mut Machine)
     requires { ⌜ Ready (now m) ⌝ }
-    ensures { λ _. ⌜ Moves (rowsUp 3 (view (now (m .entry)) .fixed .k) (2 ^ view (now (m .entry)) .fixed .k)) (now (m .entry)) (now (m .exit)) ⌝ }
+    ensures { λ _. ⌜ MovesFor (λ k. rowsUp 3 k (2 ^ k)) (now (m .entry)) (now (m .exit)) ⌝ }
 {
     let k = shape::levels(m);
     let mut level = 0;
@@ -64,7 +64,7 @@ fn returns_up(m: &mut Machine)
 // "forwards at levels k-1 down to 1"
 fn forwards_down(m: &mut Machine)
     requires { ⌜ Ready (now m) ⌝ }
-    ensures { λ _. ⌜ Moves (rowsDown 1 (view (now (m .entry)) .fixed .k - 1) (2 ^ view (now (m .entry)) .fixed .k)) (now (m .entry)) (now (m .exit)) ⌝ }
+    ensures { λ _. ⌜ MovesFor (λ k. rowsDown 1 (k - 1) (2 ^ k)) (now (m .entry)) (now (m .exit)) ⌝ }
 {
     let mut level = shape::levels(m) - 1;
     while 0 < level {
@@ -75,7 +75,7 @@ fn forwards_down(m: &mut Machine)
 
 fn collects(m: &mut Machine)
     requires { ⌜ Ready (now m) ⌝ }
-    ensures { λ _. ⌜ Moves (row 4 0 (2 ^ view (now (m .entry)) .fixed .k)) (now (m .entry)) (now (m .exit)) ⌝ }
+    ensures { λ _. ⌜ MovesFor (λ k. row 4 0 (2 ^ k)) (now (m .entry)) (now (m .exit)) ⌝ }
 {
     let mut p = 0;
     while p < 16 {
@@ -91,7 +91,7 @@ fn collects(m: &mut Machine)
 fn returns(m: &mut Machine, level: usize)
     requires { ⌜ Ready (now m) ⌝ }
     requires { ⌜ (0 < level) × (level ≤ view (now m) .fixed .k) ⌝ }
-    ensures { λ _. ⌜ Moves (row 3 level (2 ^ view (now (m .entry)) .fixed .k)) (now (m .entry)) (now (m .exit)) ⌝ }
+    ensures { λ _. ⌜ MovesFor (λ k. row 3 level (2 ^ k)) (now (m .entry)) (now (m .exit)) ⌝ }
 {
     let mut p = 0;
     while p < 16 {
@@ -106,7 +106,7 @@ fn returns(m: &mut Machine, level: usize)
 
 fn modules(m: &mut Machine, words: &mut [u64; 256])
     requires { ⌜ ReadyWith (now m) (now words) ⌝ }
-    ensures { λ _. ⌜ MovesWith (row 2 (view (now (m .entry)) .fixed .k) (2 ^ view (now (m .entry)) .fixed .k)) (now (m .entry)) (now (words .entry)) (now (m .exit)) (now (words .exit)) ⌝ }
+    ensures { λ _. ⌜ MovesWithFor (λ k. row 2 k (2 ^ k)) (now (m .entry)) (now (words .entry)) (now (m .exit)) (now (words .exit)) ⌝ }
 {
     let k = shape::levels(m);
     let mut p = 0;
@@ -123,7 +123,7 @@ fn modules(m: &mut Machine, words: &mut [u64; 256])
 fn forwards(m: &mut Machine, level: usize)
     requires { ⌜ Ready (now m) ⌝ }
     requires { ⌜ (0 < level) × (level < view (now m) .fixed .k) ⌝ }
-    ensures { λ _. ⌜ Moves (row 1 level (2 ^ view (now (m .entry)) .fixed .k)) (now (m .entry)) (now (m .exit)) ⌝ }
+    ensures { λ _. ⌜ MovesFor (λ k. row 1 level (2 ^ k)) (now (m .entry)) (now (m .exit)) ⌝ }
 {
     let mut p = 0;
     while p < 16 {
@@ -138,7 +138,7 @@ fn forwards(m: &mut Machine, level: usize)
 
 fn issues(m: &mut Machine)
     requires { ⌜ Ready (now m) ⌝ }
-    ensures { λ _. ⌜ Moves (row 0 0 (2 ^ view (now (m .entry)) .fixed .k)) (now (m .entry)) (now (m .exit)) ⌝ }
+    ensures { λ _. ⌜ MovesFor (λ k. row 0 0 (2 ^ k)) (now (m .entry)) (now (m .exit)) ⌝ }
 {
     let mut p = 0;
     while p < 16 {
