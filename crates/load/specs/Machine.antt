@@ -5,7 +5,7 @@ use mathlib.Core.List.{List}
 use lib.ListN.{length}
 use Rattle.operation.specs.declared.Words.{Words}
 use Rattle.wiring.specs.Wiring.{moduleOf, PathOf}
-use Rattle.view.specs.View.{View, blank}
+use Rattle.view.specs.View.{View, withFixed, carrying, withTags, blank}
 use Rattle.trace.specs.Item.{Request}
 use Rattle.trace.specs.Contents.{requestAt}
 
@@ -21,27 +21,7 @@ pub record RequestHeld (k : ℕ) (r : Request) (v : View) (t : ℕ) : Type 0 whe
 
 -- what stands by tag, and nothing else
 abbrev pub tagsAlone : View → View
-tagsAlone v = record {
-  fixed = record {
-    k = blank .fixed .k;
-    q = blank .fixed .q;
-    w = blank .fixed .w;
-    count = blank .fixed .count;
-    every = blank .fixed .every;
-    address = v .fixed .address;
-    path = v .fixed .path;
-    after = v .fixed .after;
-  };
-  carried = v .carried;
-  answered = blank .answered;
-  requests = blank .requests;
-  replies = blank .replies;
-  waits = blank .waits;
-  order = blank .order;
-  accesses = blank .accesses;
-  merges = blank .merges;
-  rounds = blank .rounds;
-}
+tagsAlone v = carrying (withFixed blank (withTags (blank .fixed) (v .fixed .address) (v .fixed .path) (v .fixed .after))) (v .carried)
 
 -- the machine holds each request at its tag, and nothing else is loaded
 pub record RequestsHeld (k : ℕ) (requests : List Request) (v : View) : Type 0 where

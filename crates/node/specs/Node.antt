@@ -8,11 +8,10 @@ use lib.ListN.{length}
 use Rattle.lists.specs.Table.{downFrom}
 use Rattle.lists.specs.Search.{Found, absent, found, lastOf}
 use Rattle.lists.specs.Count.{count, Distinct}
-use Rattle.operation.specs.declared.Words.{Words}
 use Rattle.machine.specs.Arrival as machine
 use Rattle.words.specs.Digits.{byteIn}
 use Rattle.lists.specs.Pair.{Pair}
-use Rattle.view.specs.View.{View}
+use Rattle.view.specs.View.{View, carrying}
 use Rattle.shown.specs.Network.{Network, setup}
 use Rattle.shown.specs.Shown.{messageOf}
 use Rattle.shown.specs.Landing.{Came, cameMerged, cameAppended, cameRefused, nodeOf, arrivalOf}
@@ -54,21 +53,6 @@ foundIn l Nowhere = absent
 foundIn l (At i) = found (downFrom (l .len - suc i) (λ j. byteIn (l .items) (suc i + j))) (byteIn (l .items) i) (downFrom i (byteIn (l .items)))
 
 -- ---- the arrival
--- the view with another table of what the tags carry
-abbrev pub carrying : View → (ℕ → Words) → View
-carrying v carried = record {
-  fixed = v .fixed;
-  carried = carried;
-  answered = v .answered;
-  requests = v .requests;
-  replies = v .replies;
-  waits = v .waits;
-  order = v .order;
-  accesses = v .accesses;
-  merges = v .merges;
-  rounds = v .rounds;
-}
-
 -- "Otherwise append if the queue has room. Otherwise the step changes nothing."
 pub record AppendedTo (n : Node) (t q : ℕ) (r : Arrived) : Type 0 where
   pub held : HeldNode (r .node)

@@ -14,13 +14,13 @@ use Rattle.words.specs.Digits.{byteIn}
 use Rattle.operation.specs.declared.Words.{Words}
 use Rattle.machine.specs.Arrival.{arrive}
 use Rattle.lists.specs.Pair.{Pair}
-use Rattle.view.specs.View.{View, withRequests, withWaits, withMerge}
+use Rattle.view.specs.View.{View, filled, carrying, withRequests, withWaits, withMerge}
 use Rattle.shown.specs.Network.{Network, setup}
 use Rattle.shown.specs.Shown.{messageOf}
 use Rattle.shown.specs.Landing.{Came, cameMerged, cameAppended, cameRefused, nodeOf, arrivalOf, mergesAfter, withNode, Landed}
 use Rattle.queue.specs.Queue.{tagsOf, pairIn, pairsOf}
 use Rattle.store.specs.Memory.{view, Becomes}
-use Rattle.node.specs.Node.{ApartAt, cameOf, carrying, ArrivedAt}
+use Rattle.node.specs.Node.{ApartAt, cameOf, ArrivedAt}
 use Rattle.node.specs.declared.Node.{Node}
 use Rattle.node.specs.declared.Arrived.{Arrived}
 use Rattle.node.specs.declared.Outcome.{Outcome}
@@ -44,27 +44,12 @@ refused-unmerged e f = omega (arith, ap (λ (o : Outcome). mark (cameOf o)) (sym
 
 -- ---- a node by its queue and its wait buffer
 module _ (v : View) (s p : ℕ) where
-  -- the view with other queues and wait buffers
-  abbrev filled : (ℕ → ℕ → List ℕ) → (ℕ → ℕ → List Pair) → (ℕ → Words) → ℕ → View
-  filled requests waits carried merges = record {
-    fixed = v .fixed;
-    carried = carried;
-    answered = v .answered;
-    requests = requests;
-    replies = v .replies;
-    waits = waits;
-    order = v .order;
-    accesses = v .accesses;
-    merges = merges;
-    rounds = v .rounds;
-  }
-
   -- a queue that stays, or a wait buffer
-  requests-idle : (waits : ℕ → ℕ → List Pair) (carried : ℕ → Words) (merges : ℕ) → filled (v .requests) waits carried merges ≡ filled (update2 (v .requests) s p (v .requests s p)) waits carried merges
-  requests-idle waits carried merges = ap (λ (f : ℕ → ℕ → List ℕ). filled f waits carried merges) (sym (update2-idle (v .requests) s p))
+  requests-idle : (waits : ℕ → ℕ → List Pair) (carried : ℕ → Words) (merges : ℕ) → filled v (v .requests) waits carried merges ≡ filled v (update2 (v .requests) s p (v .requests s p)) waits carried merges
+  requests-idle waits carried merges = ap (λ (f : ℕ → ℕ → List ℕ). filled v f waits carried merges) (sym (update2-idle (v .requests) s p))
 
-  waits-idle : (requests : ℕ → ℕ → List ℕ) (carried : ℕ → Words) (merges : ℕ) → filled requests (v .waits) carried merges ≡ filled requests (update2 (v .waits) s p (v .waits s p)) carried merges
-  waits-idle requests carried merges = ap (λ (f : ℕ → ℕ → List Pair). filled requests f carried merges) (sym (update2-idle (v .waits) s p))
+  waits-idle : (requests : ℕ → ℕ → List ℕ) (carried : ℕ → Words) (merges : ℕ) → filled v requests (v .waits) carried merges ≡ filled v requests (update2 (v .waits) s p (v .waits s p)) carried merges
+  waits-idle requests carried merges = ap (λ (f : ℕ → ℕ → List Pair). filled v requests f carried merges) (sym (update2-idle (v .waits) s p))
 
 -- ---- the node as it is loaded, with the rooms
 pub record InHand (n : Node) (v : View) (t s p q w : ℕ) : Type 0 where

@@ -8,7 +8,7 @@ use Rattle.lists.specs.Table.{update2}
 use Rattle.operation.specs.declared.Words.{Words}
 use Rattle.machine.specs.Arrival.{Node, Arrival, merged, appended, refused, arrive}
 use Rattle.lists.specs.Pair.{Pair}
-use Rattle.view.specs.View.{View}
+use Rattle.view.specs.View.{View, filled}
 use Rattle.shown.specs.Network.{Network, setup}
 use Rattle.shown.specs.Shown.{messageOf, recordOf}
 
@@ -35,18 +35,7 @@ mergesAfter cameRefused n = n
 
 -- the view with another node at a level and position, with what the tags carry after the arrival
 abbrev pub withNode : View → ℕ → ℕ → List ℕ → List Pair → (ℕ → Words) → ℕ → View
-withNode v s p tags pairs carried merges = record {
-  fixed = v .fixed;
-  carried = carried;
-  answered = v .answered;
-  requests = update2 (v .requests) s p tags;
-  replies = v .replies;
-  waits = update2 (v .waits) s p pairs;
-  order = v .order;
-  accesses = v .accesses;
-  merges = merges;
-  rounds = v .rounds;
-}
+withNode v s p tags pairs carried merges = filled v (update2 (v .requests) s p tags) (update2 (v .waits) s p pairs) carried merges
 
 -- The message t arrives at level s, position p: that node changes and nothing else, but that a merge changes what t and one of the
 -- queue carry, and counts.

@@ -50,20 +50,28 @@ withFixed v f = record {
   rounds = v .rounds;
 }
 
--- what the tag t carries
-abbrev pub withCarried : View → ℕ → Words → View
-withCarried v t x = record {
+-- other queues and wait buffers, with what their tags carry and how many merged
+abbrev pub filled : View → (ℕ → ℕ → List ℕ) → (ℕ → ℕ → List Pair) → (ℕ → Words) → ℕ → View
+filled v requests waits carried merges = record {
   fixed = v .fixed;
-  carried = update (v .carried) t x;
+  carried = carried;
   answered = v .answered;
-  requests = v .requests;
+  requests = requests;
   replies = v .replies;
-  waits = v .waits;
+  waits = waits;
   order = v .order;
   accesses = v .accesses;
-  merges = v .merges;
+  merges = merges;
   rounds = v .rounds;
 }
+
+-- another table of what the tags carry
+abbrev pub carrying : View → (ℕ → Words) → View
+carrying v carried = filled v (v .requests) (v .waits) carried (v .merges)
+
+-- what the tag t carries
+abbrev pub withCarried : View → ℕ → Words → View
+withCarried v t x = carrying v (update (v .carried) t x)
 
 -- the request t is answered, with the value that it carries
 abbrev pub withAnswer : View → ℕ → View
@@ -82,18 +90,7 @@ withAnswer v t = record {
 
 -- a request queue
 abbrev pub withRequests : View → ℕ → ℕ → List ℕ → View
-withRequests v s p l = record {
-  fixed = v .fixed;
-  carried = v .carried;
-  answered = v .answered;
-  requests = update2 (v .requests) s p l;
-  replies = v .replies;
-  waits = v .waits;
-  order = v .order;
-  accesses = v .accesses;
-  merges = v .merges;
-  rounds = v .rounds;
-}
+withRequests v s p l = filled v (update2 (v .requests) s p l) (v .waits) (v .carried) (v .merges)
 
 -- a reply queue
 abbrev pub withReplies : View → ℕ → ℕ → List ℕ → View
@@ -112,18 +109,7 @@ withReplies v s p l = record {
 
 -- a wait buffer
 abbrev pub withWaits : View → ℕ → ℕ → List Pair → View
-withWaits v s p l = record {
-  fixed = v .fixed;
-  carried = v .carried;
-  answered = v .answered;
-  requests = v .requests;
-  replies = v .replies;
-  waits = update2 (v .waits) s p l;
-  order = v .order;
-  accesses = v .accesses;
-  merges = v .merges;
-  rounds = v .rounds;
-}
+withWaits v s p l = filled v (v .requests) (update2 (v .waits) s p l) (v .carried) (v .merges)
 
 -- the order list, longer by l
 abbrev pub withOrder : View → List ℕ → View
@@ -157,18 +143,7 @@ withAccess v = record {
 
 -- one merge more
 abbrev pub withMerge : View → View
-withMerge v = record {
-  fixed = v .fixed;
-  carried = v .carried;
-  answered = v .answered;
-  requests = v .requests;
-  replies = v .replies;
-  waits = v .waits;
-  order = v .order;
-  accesses = v .accesses;
-  merges = suc (v .merges);
-  rounds = v .rounds;
-}
+withMerge v = filled v (v .requests) (v .waits) (v .carried) (suc (v .merges))
 
 -- one round more
 abbrev pub withRound : View → View
@@ -198,31 +173,26 @@ shaped f k q w count = record {
   after = f .after;
 }
 
--- the engine's next request after t
-abbrev pub linked : Fixed → ℕ → ℕ → Fixed
-linked f t n = record {
+-- other addresses, paths and next requests
+abbrev pub withTags : Fixed → (ℕ → ℕ) → (ℕ → ℕ) → (ℕ → ℕ) → Fixed
+withTags f address path after = record {
   k = f .k;
   q = f .q;
   w = f .w;
   count = f .count;
   every = f .every;
-  address = f .address;
-  path = f .path;
-  after = update (f .after) t n;
+  address = address;
+  path = path;
+  after = after;
 }
+
+-- the engine's next request after t
+abbrev pub linked : Fixed → ℕ → ℕ → Fixed
+linked f t n = withTags f (f .address) (f .path) (update (f .after) t n)
 
 -- the request t as it is loaded: its address and path, with none after it yet
 abbrev pub placed : Fixed → ℕ → ℕ → ℕ → Fixed
-placed f t address path = record {
-  k = f .k;
-  q = f .q;
-  w = f .w;
-  count = f .count;
-  every = f .every;
-  address = update (f .address) t address;
-  path = update (f .path) t path;
-  after = update (f .after) t 0;
-}
+placed f t address path = withTags f (update (f .address) t address) (update (f .path) t path) (update (f .after) t 0)
 
 abbrev pub withRequest : View → ℕ → ℕ → ℕ → Words → View
 withRequest v t address path x = withCarried (withFixed v (placed (v .fixed) t address path)) t x
