@@ -1,7 +1,7 @@
 -- `model` meets its contract: refused, without room, or run and given.
 use borrow.Author.Needs.{needs}
 use mathlib.Core.Path.{sym, _∙_, ap}
-use Rattle.trace.specs.Answers as load
+use Rattle.trace.specs.Answers as checked
 use Rattle.model.specs.Result.{Lent, lent}
 use Rattle.model.proofs.Given.{may-give, gives-leaves}
 use Rattle.run.proofs.Loading.{load-loading}
@@ -62,7 +62,7 @@ returns c =
     (gives-leaves (ran .from-start .ensures) (lent-to asked) (gave .give .ensures))
 
 returns-2 : tie.Need-returns-2
-returns-2 c = promised-refused _ _ _ _ (ap load.tells (sym (c .before .told .given .1)) ∙ c .before .before .before .load .ensures .answer)
+returns-2 c = promised-refused _ _ _ _ (ap checked.tells (sym (c .before .told .given .1)) ∙ c .before .before .before .load .ensures .answer)
 
 returns-3 : tie.Need-returns-3
 returns-3 c =
