@@ -18,7 +18,7 @@ use Rattle.trace.specs.Item.{Shape, Word, Request, shape, word, request, kindOf
 use Rattle.trace.specs.Contents.{contents, add, shapeOf, wordsGiven, requestsOf, given, startWords, sectionOf, lastSection, actsAt}
 use Rattle.trace.specs.Refusals.{fault}
 use Rattle.trace.specs.Acts.{itemOf, actSize}
-use Rattle.trace.specs.Known.{Known, moved, shaped, Same}
+use Rattle.trace.specs.Known.{moved, shaped, Same}
 use Rattle.trace.specs.declared.progress.Progress.{Progress}
 use Rattle.trace.proofs.Contents.{given-more, start-words-more}
 use Rattle.trace.proofs.Ranges.{shape-in-range, shape-first}

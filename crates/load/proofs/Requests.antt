@@ -6,7 +6,7 @@ use native.Mathlib.Omega.{arith}
 use lib.ListN.{length, take, drop}
 use Rattle.store.specs.Layout.{size as machineSize}
 use Rattle.trace.specs.Bytes.{AreBytes, number, bodySize}
-use Rattle.trace.specs.Item.{Request, request, requestIn, kindOf, item, Items}
+use Rattle.trace.specs.Item.{Request, request, requestIn, kindOf, item}
 use Rattle.trace.specs.Contents.{sectionOf, lastSection}
 use Rattle.trace.specs.Refusals.{fault, orElse, mayFollow, ownFault}
 use Rattle.trace.specs.Known.{RecordFault, moved}

@@ -10,7 +10,7 @@ use lib.ListN.{length}
 use Rattle.lists.specs.Search.{All, nil, cons}
 use Rattle.lists.proofs.Tests.{by-cases, test-cases}
 use Rattle.event.specs.Event.{Event, levelFits}
-use Rattle.machine.specs.Setup.{Setup, WaitRecord, place}
+use Rattle.machine.specs.Setup.{Setup, place}
 use Rattle.machine.specs.State.{State}
 use Rattle.machine.specs.Steps.{step}
 use Rattle.machine.specs.Run.{round, runEvents, isAnswered, answeredBelow, allAnswered, Ran, drainRun}

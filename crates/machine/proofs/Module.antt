@@ -12,8 +12,8 @@ use Rattle.lists.proofs.Tests.{by-cases}
 use Rattle.lists.proofs.Every.{all-tail, all-map, all-append}
 use Rattle.lists.proofs.Tables.{update-same, update-other, update2-same, update2-level, update2-position, update2-ind}
 use Rattle.lists.proofs.Counts.{distinct-tail, distinct-append}
-use Rattle.machine.specs.Setup.{Setup, Message, Reply, place}
-use Rattle.machine.specs.State.{State, standsFor}
+use Rattle.machine.specs.Setup.{Setup, Message, Reply}
+use Rattle.machine.specs.State.{State}
 use Rattle.machine.specs.Steps.{taken}
 use Rattle.machine.specs.Single.{runSingly, reads}
 use Rattle.machine.specs.Lawful.{Lawful}

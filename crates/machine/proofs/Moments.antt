@@ -11,7 +11,7 @@ use Rattle.event.specs.Event.{Event, Act, event, drain}
 use Rattle.machine.specs.Setup.{Setup}
 use Rattle.machine.specs.State.{State}
 use Rattle.machine.specs.Steps.{step}
-use Rattle.machine.specs.Run.{round, runEvents, allAnswered, Ran, drainRun, runAct, runActs, drainEvents, eventsOf, afterEach, moments}
+use Rattle.machine.specs.Run.{round, runEvents, allAnswered, Ran, drainRun, runAct, runActs, drainEvents, eventsOf, afterEach}
 use Rattle.machine.specs.Order.{Named, InTime}
 use Rattle.machine.specs.Lawful.{Lawful}
 use Rattle.machine.proofs.Progress.{Live}

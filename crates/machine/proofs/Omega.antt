@@ -1,16 +1,15 @@
 -- Document 01's setup is lawful.
-use Prim.Native.Nat.{ℕ, zero, suc, _^_, _≤_, _<_}
+use Prim.Native.Nat.{ℕ, _^_, _<_}
 use mathlib.Core.Path.{_≡_, refl, subst}
-use mathlib.Core.Option.{Option, none, some}
+use mathlib.Core.Option.{some}
 use native.Mathlib.Omega.{arith}
 use Rattle.operation.specs.Operation.{applied, merged}
 use Rattle.operation.specs.declared.Operation.{Operation}
 use Rattle.operation.specs.declared.Merged.{Merged}
 use Rattle.operation.specs.declared.Merged.the-variants.{One, Never}
 use Rattle.operation.proofs.Laws.{merge-applies}
-use Rattle.wiring.specs.Wiring.{position, moduleOf}
+use Rattle.wiring.specs.Wiring.{moduleOf}
 use Rattle.wiring.proofs.Laws.{module-below, position-below, position-engine, position-onward}
-use Rattle.machine.specs.Setup.{Setup}
 use Rattle.machine.specs.Lawful.{Lawful}
 use Rattle.machine.specs.Omega.{omegaNetwork, oneOf}
 

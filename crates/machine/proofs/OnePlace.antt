@@ -6,7 +6,7 @@ use native.Mathlib.Decide.{decLt}
 use native.Mathlib.Omega.{arith}
 use Rattle.lists.specs.Choice.{choose}
 use Rattle.lists.proofs.Tests.{by-cases}
-use Rattle.machine.specs.Setup.{Setup, Message, WaitRecord, Reply, place}
+use Rattle.machine.specs.Setup.{Setup, place}
 use Rattle.machine.specs.State.{State}
 use Rattle.machine.specs.Run.{isAnswered}
 use Rattle.machine.specs.Order.{Where, requested, waiting, replying, answered, times, OnPath, OnePlace}

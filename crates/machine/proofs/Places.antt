@@ -9,7 +9,7 @@ use Rattle.lists.specs.Table.{update}
 use Rattle.lists.specs.Count.{count}
 use Rattle.lists.proofs.Tests.{by-cases}
 use Rattle.lists.proofs.Tables.{update-same, update-other}
-use Rattle.machine.specs.Setup.{Setup, Message, WaitRecord, Reply, place}
+use Rattle.machine.specs.Setup.{Setup, place}
 use Rattle.machine.specs.State.{State}
 use Rattle.machine.specs.Run.{isAnswered}
 use Rattle.machine.proofs.Tags.{messageTag, waiterTag, replyTag}

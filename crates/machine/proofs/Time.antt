@@ -11,7 +11,7 @@ use Rattle.lists.specs.Count.{count}
 use Rattle.lists.proofs.Tests.{by-cases}
 use Rattle.lists.proofs.Tables.{update-other}
 use Rattle.lists.proofs.Counts.{count-append}
-use Rattle.machine.specs.Setup.{Setup, Message, Reply}
+use Rattle.machine.specs.Setup.{Setup, Reply}
 use Rattle.machine.specs.State.{State, standsFor}
 use Rattle.machine.specs.Steps.{collectOldest}
 use Rattle.machine.specs.Order.{InTime}

@@ -3,8 +3,8 @@ use Prim.Native.Nat.{ℕ, suc, _+_, _*_, _≤_, _<_}
 use mathlib.Core.Path.{_≡_}
 use mathlib.Core.Logic.{_≢_}
 use mathlib.Core.Bool.{Bool, true, false}
-use mathlib.Core.List.{List, [], _∷_, _++_, List·Memᴰ}
-use mathlib.Core.Option.{Option, none, some}
+use mathlib.Core.List.{List, [], _∷_, List·Memᴰ}
+use mathlib.Core.Option.{none, some}
 use lib.ListN.{length}
 use lib.Dec.{eqb, ltb}
 use Rattle.lists.specs.Choice.{choose, both}
@@ -15,7 +15,7 @@ use Rattle.machine.specs.Setup.{Setup, Message, WaitRecord, Reply, place
 use Rattle.machine.specs.Arrival.{Arrival, merged, appended, refused, arrive}
 use Rattle.machine.specs.State.{State, start, tagsBelow}
 use Rattle.machine.specs.Steps.{step, nodeAt}
-use Rattle.machine.specs.Run.{Ran, runEvents, runActs, drainRun, allAnswered, isAnswered, eventsOf, moments}
+use Rattle.machine.specs.Run.{Ran, runActs, drainRun, allAnswered, isAnswered, eventsOf, moments}
 use Rattle.machine.specs.Single.{runSingly, reads}
 
 -- the acts of an accepted trace: no event is refused with 8

@@ -1,7 +1,7 @@
 -- The machine's state, the state at the start, and the requests that a message stands for: document 01, "Wiring and queues", "Steps".
 use Prim.Native.Nat.{ℕ, zero, suc}
 use mathlib.Core.List.{List, [], _∷_, _++_}
-use mathlib.Core.Option.{Option, none, some}
+use mathlib.Core.Option.{Option, none}
 use lib.Dec.{eqb}
 use Rattle.lists.specs.Choice.{choose}
 use Rattle.machine.specs.Setup.{Setup, Message, WaitRecord, Reply, place}

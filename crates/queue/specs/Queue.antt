@@ -1,5 +1,5 @@
 -- A queue of tags and a wait buffer by value: what they hold, and where something is found in them.
-use Prim.Native.Nat.{ℕ, suc, _≤_, _<_}
+use Prim.Native.Nat.{ℕ, suc, _≤_}
 use mathlib.Core.List.{List}
 use lib.ListN.{getD, take, drop}
 use Rattle.lists.specs.Table.{listBelow, downFrom}

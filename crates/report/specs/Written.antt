@@ -1,7 +1,6 @@
 -- What the report's function promises, for every trace and every lent buffer.
 use Prim.Native.Nat.{ℕ, _≤_}
 use mathlib.Core.Path.{_≡_}
-use mathlib.Core.Bool.{Bool, true, false}
 use mathlib.Core.List.{List}
 use lib.ListN.{length, take}
 use lib.Dec.{leb}

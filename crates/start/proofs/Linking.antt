@@ -1,5 +1,5 @@
 -- Requests are linked from the last to the first: what holds once those from t on are, at the end, at one more, and at all of them.
-use Prim.Native.Nat.{ℕ, suc, _+_, _-_, _≤_, _<_, _^_}
+use Prim.Native.Nat.{ℕ, suc, _-_, _≤_, _<_}
 use mathlib.Core.Path.{_≡_, refl, sym, ap, _∙_}
 use mathlib.Core.Logic.{_≢_}
 use mathlib.Core.Bool.{Bool, true, false}
@@ -8,15 +8,14 @@ use native.Mathlib.Decide.{ℕ-discrete}
 use native.Mathlib.Omega.{arith}
 use lib.Dec.{eqb, ltb}
 use lib.ListN.{length, getD}
-use borrow.Author.Tests.{eqb-false, eq-eqb, ne-eqb, lt-ltb, le-ltb}
+use borrow.Author.Tests.{eqb-false, eq-eqb, ne-eqb, le-ltb}
 use Rattle.lists.specs.Choice.{choose}
-use Rattle.lists.specs.Table.{update, update2}
 use Rattle.lists.proofs.Tests.{by-cases, ltb-cases}
 use Rattle.lists.proofs.Tables.{update-same, update-other, update2-same, update2-level, update2-position}
 use Rattle.wiring.specs.Wiring.{positionOn, moduleOf}
 use Rattle.wiring.proofs.Laws.{position-engine, module-below}
 use Rattle.view.specs.View.{View, withFixed, withRequests, shaped, linked}
-use Rattle.shown.specs.Network.{Network, Ranges, Fits, nextOf, firstFrom}
+use Rattle.shown.specs.Network.{Network, nextOf, firstFrom}
 use Rattle.shown.specs.Reached.{AtStart}
 use Rattle.shown.proofs.Engines.{next-within}
 use Rattle.store.specs.Layout.{size}

@@ -1,5 +1,5 @@
 -- The machine before the first event, as it is made from the requests that a trace has put into it.
-use Prim.Native.Nat.{ℕ, suc, _≤_, _<_}
+use Prim.Native.Nat.{ℕ, _≤_, _<_}
 use mathlib.Core.Path.{_≡_}
 use mathlib.Core.Bool.{false}
 use mathlib.Core.List.{List, [], _∷_}
@@ -9,7 +9,7 @@ use Rattle.lists.specs.Choice.{choose}
 use Rattle.wiring.specs.Wiring.{positionOn}
 use Rattle.machine.specs.Setup.{place}
 use Rattle.view.specs.View.{View, withFixed, withRequests, linked}
-use Rattle.shown.specs.Network.{Network, setup, Ranges, nextOf}
+use Rattle.shown.specs.Network.{Network, setup, Ranges}
 use Rattle.shown.specs.Shown.{operationIn}
 use Rattle.shown.specs.Reached.{AtStart}
 use Rattle.store.specs.Layout.{size}

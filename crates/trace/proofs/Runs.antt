@@ -12,7 +12,7 @@ use lib.Seq.{drop-drop, getD-take, getD-drop}
 use Rattle.event.specs.Event.{Event, Act, namesStep}
 use Rattle.trace.specs.Bytes.{AreBytes, number, bodySize}
 use Rattle.trace.specs.Item.{Shape, event, drain, kindOf, item, eventIn, recordSize, Items, after, size, next, records}
-use Rattle.trace.specs.Contents.{shapeOf, sectionOf, section, lastSection}
+use Rattle.trace.specs.Contents.{shapeOf, sectionOf, lastSection}
 use Rattle.trace.specs.Refusals.{fault, orElse, mayFollow, ownFault}
 use Rattle.trace.specs.Check.{decide, checkRecords}
 use Rattle.trace.specs.Acts.{itemOf, actSize}

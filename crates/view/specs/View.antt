@@ -1,7 +1,7 @@
 -- What the machine in code holds, by name, and each change that the code makes to it. Nothing here says how it is kept: `store` does.
 use Prim.Native.Nat.{ℕ, suc}
 use mathlib.Core.Bool.{Bool, true, false}
-use mathlib.Core.List.{List, [], _∷_, _++_}
+use mathlib.Core.List.{List, [], _++_}
 use lib.Dec.{ltb}
 use Rattle.lists.specs.Table.{update, update2}
 use Rattle.lists.specs.Pair.{Pair}

@@ -1,5 +1,5 @@
 -- `link` meets its contract: what is stored is the request before its engine's first so far.
-use mathlib.Core.Path.{_∙_, ap}
+use mathlib.Core.Path.{ap}
 use Rattle.view.specs.View.{View}
 use Rattle.start.proofs.Linking.{link-stored}
 use Rattle.store.specs.Memory.{view}

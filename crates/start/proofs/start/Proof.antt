@@ -2,7 +2,6 @@
 use mathlib.Core.Path.{_≡_}
 use Rattle.start.proofs.Linking.{Linking, linking-none, linking-more, linking-all, loaded-within}
 use native.Mathlib.Omega.{arith}
-use borrow.Author.Needs.{needs}
 use Rattle.start.proofs.start.Statement.{statement}
 use Rattle.start.proofs.start.Tie as tie
 
