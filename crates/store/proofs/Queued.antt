@@ -253,6 +253,9 @@ module _ (m : List ℕ) (e : ℕ) (b : e < 16) where
   pub next-is : 0 < length (view m .requests 0 e) → getD (view m .requests 0 e) 0 0 ≡ byteIn (getD m (atRequests + e) 0) 0
   next-is = rw next-here (alone-first (getD m (atRequests + e) 0) nextLength)
 
+  pub next-filled : 0 < length (view m .requests 0 e) → nextLength ≢ 0
+  next-filled h z = let g : 0 < length (alone (getD m (atRequests + e) 0) 0) = rw (next-here, z) at h in omega arith
+
   module _ (fits : length m ≡ size) (n : ℕ) where
     abbrev next : List ℕ
     next = choose (ltb n (view m .fixed .count)) (n ∷ []) []

@@ -223,3 +223,18 @@ pub fn set_next(m: &mut Machine, e: usize, n: usize)
     }
     m[REQUEST_LENGTHS] = words::with_length(row, e, 0);
 }
+
+// The same where engine e has a request: n takes its place.
+pub fn replace_next(m: &mut Machine, e: usize, n: usize)
+    requires { ⌜ length (now m) ≡ size ⌝ }
+    requires { ⌜ e < 16 ⌝ }
+    requires { ⌜ view (now m) .fixed .count ≤ 256 ⌝ }
+    requires { ⌜ 0 < length (view (now m) .requests 0 e) ⌝ }
+    ensures { λ _. ⌜ Becomes (now (m .exit)) (withRequests (view (now (m .entry))) 0 e (choose (ltb n (view (now (m .entry)) .fixed .count)) (n ∷ []) [])) ⌝ }
+{
+    if n < m[COUNT] as usize {
+        m[REQUESTS + e] = n as u64;
+        return;
+    }
+    m[REQUEST_LENGTHS] = words::with_length(m[REQUEST_LENGTHS], e, 0);
+}
