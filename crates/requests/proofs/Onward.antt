@@ -163,17 +163,17 @@ module _ {m : List ℕ} {e t to : ℕ} where
   }
 
   -- the engine's next request takes its place
-  pub issued-moves : Going m (single 0 0 e) 0 e t to → {m₁ : List ℕ} {r : Bool} → Went (view m) t 1 to m₁ r → r ≡ true → {n : ℕ} → n ≡ view m₁ .fixed .after t
+  pub issued-moves : Going m (single 0 0 e) 0 e t to → {m₁ : List ℕ} {r : Bool} → Went (view m) t 1 to m₁ r → r ≡ true → {n : ℕ} → n ≡ view m .fixed .after t
       → {m₂ : List ℕ} → Becomes m₂ (withRequests (view m₁) 0 e (choose (ltb n (view m₁ .fixed .count)) (n ∷ []) [])) → Moves (single 0 0 e) m m₂
   issued-moves G {m₁} W c {n} after {m₂} B =
       sent-moves G W c (next (view m .fixed)) (λ x words S d. issue-shows S e t (G .rest) (G .is) to (G .at) (W .landed) d)
-      (subst (λ (l : List ℕ). Becomes m₂ (withRequests (view m₁) 0 e l)) (next-is ∙ ap next (fixed-stays G W)) B)
+      (subst (λ (l : List ℕ). Becomes m₂ (withRequests (view m₁) 0 e l)) next-is B)
     where
       next : Fixed → List ℕ
       next f = choose (ltb (f .after t) (f .count)) (f .after t ∷ []) []
 
-      next-is : choose (ltb n (view m₁ .fixed .count)) (n ∷ []) [] ≡ next (view m₁ .fixed)
-      next-is = rw after
+      next-is : choose (ltb n (view m₁ .fixed .count)) (n ∷ []) [] ≡ next (view m .fixed)
+      next-is = rw (after, fixed-stays G W)
 
 -- ---- a forward
 module _ {m : List ℕ} {s p t to : ℕ} where

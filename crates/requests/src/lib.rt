@@ -25,9 +25,10 @@ pub fn issue(m: &mut Machine, e: usize)
     if is_full(m, 1, to) {
         return;
     }
+    // read before a merge writes to the same word
+    let after = tags::after_of(m, t);
     if arrive_at(m, t, 1, to) {
-        let after = tags::after_of(m, t);
-        queues::set_next(m, e, after);
+        queues::replace_next(m, e, after);
     }
 }
 

@@ -1,6 +1,6 @@
-// The drain round, row by row, and the drain: document 01, "Steps". A row takes its step at each position that has something to move when
-// its turn comes; between one such position and the next all queues are empty, and a step there changes nothing. Past the N positions of
-// a level nothing ever stands. Each kind of step has a loop of its own, so that the step stands in it.
+// The drain round, row by row, and the drain: document 01, "Steps". A row takes its step at each position that has something to move,
+// lowest first: at the others a step changes nothing. The row's lengths are read once, since a step leaves the other queues of its row as
+// they were. Past the N positions of a level nothing ever stands. Each kind of step has a loop of its own, so that the step stands in it.
 use store::Machine;
 use store::answers;
 use store::queues;
@@ -77,14 +77,11 @@ fn collects(m: &mut Machine)
     requires { ⌜ Ready (now m) ⌝ }
     ensures { λ _. ⌜ MovesFor (λ k. row 4 0 (2 ^ k)) (now (m .entry)) (now (m .exit)) ⌝ }
 {
-    let mut p = 0;
-    while p < 16 {
-        let busy = queues::next_reply(m, 0, p);
-        if 16 <= busy {
-            return;
-        }
-        replies::collect(m, busy);
-        p = busy + 1;
+    let mut left = queues::reply_row(m, 0);
+    while left != 0 {
+        let p = words::first_busy(left);
+        replies::collect(m, p);
+        left = words::lengths_above(left, p);
     }
 }
 
@@ -93,14 +90,11 @@ fn returns(m: &mut Machine, level: usize)
     requires { ⌜ (0 < level) × (level ≤ view (now m) .fixed .k) ⌝ }
     ensures { λ _. ⌜ MovesFor (λ k. row 3 level (2 ^ k)) (now (m .entry)) (now (m .exit)) ⌝ }
 {
-    let mut p = 0;
-    while p < 16 {
-        let busy = queues::next_reply(m, level, p);
-        if 16 <= busy {
-            return;
-        }
-        replies::return_step(m, level, busy);
-        p = busy + 1;
+    let mut left = queues::reply_row(m, level);
+    while left != 0 {
+        let p = words::first_busy(left);
+        replies::return_step(m, level, p);
+        left = words::lengths_above(left, p);
     }
 }
 
@@ -109,14 +103,11 @@ fn modules(m: &mut Machine, words: &mut [u64; 256])
     ensures { λ _. ⌜ MovesWithFor (λ k. row 2 k (2 ^ k)) (now (m .entry)) (now (words .entry)) (now (m .exit)) (now (words .exit)) ⌝ }
 {
     let k = shape::levels(m);
-    let mut p = 0;
-    while p < 16 {
-        let busy = queues::next_request(m, k, p);
-        if 16 <= busy {
-            return;
-        }
-        replies::module_step(m, words, busy);
-        p = busy + 1;
+    let mut left = queues::request_row(m, k);
+    while left != 0 {
+        let p = words::first_busy(left);
+        replies::module_step(m, words, p);
+        left = words::lengths_above(left, p);
     }
 }
 
@@ -125,14 +116,11 @@ fn forwards(m: &mut Machine, level: usize)
     requires { ⌜ (0 < level) × (level < view (now m) .fixed .k) ⌝ }
     ensures { λ _. ⌜ MovesFor (λ k. row 1 level (2 ^ k)) (now (m .entry)) (now (m .exit)) ⌝ }
 {
-    let mut p = 0;
-    while p < 16 {
-        let busy = queues::next_request(m, level, p);
-        if 16 <= busy {
-            return;
-        }
-        requests::forward(m, level, busy);
-        p = busy + 1;
+    let mut left = queues::request_row(m, level);
+    while left != 0 {
+        let p = words::first_busy(left);
+        requests::forward(m, level, p);
+        left = words::lengths_above(left, p);
     }
 }
 
@@ -140,13 +128,10 @@ fn issues(m: &mut Machine)
     requires { ⌜ Ready (now m) ⌝ }
     ensures { λ _. ⌜ MovesFor (λ k. row 0 0 (2 ^ k)) (now (m .entry)) (now (m .exit)) ⌝ }
 {
-    let mut p = 0;
-    while p < 16 {
-        let busy = queues::next_request(m, 0, p);
-        if 16 <= busy {
-            return;
-        }
-        requests::issue(m, busy);
-        p = busy + 1;
+    let mut left = queues::request_row(m, 0);
+    while left != 0 {
+        let p = words::first_busy(left);
+        requests::issue(m, p);
+        left = words::lengths_above(left, p);
     }
 }

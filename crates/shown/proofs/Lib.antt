@@ -10,6 +10,7 @@ pub mod Rooms
 pub mod Moving
 pub mod Events
 pub mod Rests
+pub mod Others
 pub mod Drains
 pub mod Collecting
 pub mod Expansion

@@ -15,13 +15,13 @@ use Rattle.lists.specs.Table.{update, update2, downFrom}
 use Rattle.lists.proofs.Tests.{by-cases, choose-yes, choose-no}
 use Rattle.lists.proofs.Tables.{update-same, update-other}
 use Rattle.lists.proofs.Below.{length-below, length-down, down-push}
-use Rattle.words.specs.Digits.{lengthIn, byteIn, NextBusy, Pushed}
+use Rattle.words.specs.Digits.{lengthIn, byteIn, Pushed}
 use Rattle.words.proofs.Digits.{digit-low}
 use Rattle.view.specs.View.{withRequests, withReplies, withWaits}
 use Rattle.queue.specs.declared.Tags.{Tags}
 use Rattle.queue.specs.Queue.{tagsIn, pairsIn, tagsOf}
 use Rattle.store.specs.Layout.{size, atCount, atRequestLengths, atReplyLengths, atWaitLengths, atRequests, atReplies, atFirsts, atSeconds}
-use Rattle.store.specs.Memory.{gridAt, lengthsAt, requestsAt, buffersAt, fixedIn, view, Becomes, NextFull}
+use Rattle.store.specs.Memory.{gridAt, lengthsAt, requestsAt, buffersAt, fixedIn, view, Becomes, RowOf}
 use Rattle.store.proofs.Grid.{grid-here, grid-changed}
 use Rattle.store.proofs.Columns.{update-idle}
 use Rattle.store.proofs.Held.{Reading, asTags, alone, asRequests, heldAt, requests-held, requests-above, Told, tags-told, alone-first, requests-none, requests-told}
@@ -72,26 +72,23 @@ module _ (m : List ℕ) (level position : ℕ) (on : (level < 5) × (position < 
 pub held-length : (r : Tags) (l : List ℕ) → tagsOf r ≡ l → length l ≡ r .len
 held-length r l e = ap length (sym e) ∙ length-down _ _
 
--- the next queue that is not empty has the next length that is not 0
-next-full : {read : Reading} → Told read → (lengths from : ℕ) (m : List ℕ) (level start r : ℕ) → level < 5 → NextBusy (getD m (lengths + level) 0) start r →
-    NextFull (heldAt read lengths from m level) start r
-next-full {read} t lengths from m level start r a n = record {
-  above = n .above;
-  below = n .below;
-  empty = λ p f l. here p (omega (arith, n .below)) ∙ ap (λ (k : ℕ). read level (gridAt from m level p) k) (n .idle p f l) ∙ t .none level _;
-  full = λ l z. n .busy l (t .short level _ _ (sym (here r l) ∙ z));
+-- a queue is empty where its length is 0
+row-of : {read : Reading} → Told read → (lengths from : ℕ) (m : List ℕ) (level : ℕ) → level < 5 → RowOf (heldAt read lengths from m level) (getD m (lengths + level) 0)
+row-of {read} t lengths from m level a = record {
+  empty = λ p l e. here p l ∙ ap (λ (k : ℕ). read level (gridAt from m level p) k) e ∙ t .none level _;
+  full = λ p l n z. n (t .short level _ _ (sym (here p l) ∙ z));
 }
   where
     here : (p : ℕ) → p < 16 → heldAt read lengths from m level p ≡ read level (gridAt from m level p) (lengthsAt lengths m level p)
     here p l = grid-here _ a l
 
-pub next-request : (m : List ℕ) (level start r : ℕ) → level < 5 → NextBusy (getD m (atRequestLengths + level) 0) start r → NextFull (view m .requests level) start r
+pub request-row : (m : List ℕ) (level : ℕ) → level < 5 → RowOf (view m .requests level) (getD m (atRequestLengths + level) 0)
 unfolding view
-next-request m level start r a n = rw (requests-held m) (next-full requests-told atRequestLengths atRequests m level start r a n)
+request-row m level a = rw (requests-held m) (row-of requests-told atRequestLengths atRequests m level a)
 
-pub next-reply : (m : List ℕ) (level start r : ℕ) → level < 5 → NextBusy (getD m (atReplyLengths + level) 0) start r → NextFull (view m .replies level) start r
+pub reply-row : (m : List ℕ) (level : ℕ) → level < 5 → RowOf (view m .replies level) (getD m (atReplyLengths + level) 0)
 unfolding view
-next-reply m level start r a n = next-full tags-told atReplyLengths atReplies m level start r a n
+reply-row m level a = row-of tags-told atReplyLengths atReplies m level a
 
 -- ---- written
 
@@ -255,6 +252,9 @@ module _ (m : List ℕ) (e : ℕ) (b : e < 16) where
 
   pub next-is : 0 < length (view m .requests 0 e) → getD (view m .requests 0 e) 0 0 ≡ byteIn (getD m (atRequests + e) 0) 0
   next-is = rw next-here (alone-first (getD m (atRequests + e) 0) nextLength)
+
+  pub next-filled : 0 < length (view m .requests 0 e) → nextLength ≢ 0
+  next-filled h z = let g : 0 < length (alone (getD m (atRequests + e) 0) 0) = rw (next-here, z) at h in omega arith
 
   module _ (fits : length m ≡ size) (n : ℕ) where
     abbrev next : List ℕ

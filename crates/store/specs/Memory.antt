@@ -111,12 +111,10 @@ pub record Becomes (m : List ℕ) (v : View) : Type 0 where
   pub sized : length m ≡ size
   pub holds : view m ≡ v
 
--- the first position from `from` on with a queue that is not empty; 16 where there is none
-pub record NextFull {A : Type 0} (queues : ℕ → List A) (from r : ℕ) : Type 0 where
-  pub above : from ≤ r
-  pub below : r ≤ 16
-  pub empty : (p : ℕ) → from ≤ p → p < r → queues p ≡ []
-  pub full : r < 16 → queues r ≢ []
+-- a length for each of sixteen positions: 0 where the queue there is empty, and only there
+pub record RowOf {A : Type 0} (queues : ℕ → List A) (row : ℕ) : Type 0 where
+  pub empty : (p : ℕ) → p < 16 → lengthIn row p ≡ 0 → queues p ≡ []
+  pub full : (p : ℕ) → p < 16 → lengthIn row p ≢ 0 → queues p ≢ []
 
 -- whether the marks of two kinds are the same
 pub record Same (f g : ℕ → Bool) (r : Bool) : Type 0 where

@@ -19,7 +19,7 @@ ghost use Rattle.lists.specs.Choice.{choose};
 ghost use Rattle.view.specs.View.{withRequests, withReplies, withWaits};
 ghost use Rattle.queue.specs.Queue.{tagsOf, pairsOf, HeldTags, HeldPairs};
 ghost use Rattle.store.specs.Layout.{size};
-ghost use Rattle.store.specs.Memory.{view, Becomes, NextFull};
+ghost use Rattle.store.specs.Memory.{view, Becomes, RowOf};
 
 // ---- how long they are
 
@@ -52,19 +52,19 @@ pub fn no_request(m: &Machine, level: usize, position: usize) -> bool
     words::length_in(m[REQUEST_LENGTHS + level], position) == 0
 }
 
-// The first position from `from` on that has a request, or 16.
-pub fn next_request(m: &Machine, level: usize, from: usize) -> usize
-    requires { ⌜ (level < 5) × (from < 16) ⌝ }
-    ensures { λ r. ⌜ NextFull (view (now (m .entry)) .requests level) from r ⌝ }
+// A level's row of requests: a length for each position, 0 where there is none.
+pub fn request_row(m: &Machine, level: usize) -> u64
+    requires { ⌜ level < 5 ⌝ }
+    ensures { λ r. ⌜ RowOf (view (now (m .entry)) .requests level) r ⌝ }
 {
-    words::next_busy(m[REQUEST_LENGTHS + level], from)
+    m[REQUEST_LENGTHS + level]
 }
 
-pub fn next_reply(m: &Machine, level: usize, from: usize) -> usize
-    requires { ⌜ (level < 5) × (from < 16) ⌝ }
-    ensures { λ r. ⌜ NextFull (view (now (m .entry)) .replies level) from r ⌝ }
+pub fn reply_row(m: &Machine, level: usize) -> u64
+    requires { ⌜ level < 5 ⌝ }
+    ensures { λ r. ⌜ RowOf (view (now (m .entry)) .replies level) r ⌝ }
 {
-    words::next_busy(m[REPLY_LENGTHS + level], from)
+    m[REPLY_LENGTHS + level]
 }
 
 // ---- by value
@@ -222,4 +222,19 @@ pub fn set_next(m: &mut Machine, e: usize, n: usize)
         return;
     }
     m[REQUEST_LENGTHS] = words::with_length(row, e, 0);
+}
+
+// The same where engine e has a request: n takes its place.
+pub fn replace_next(m: &mut Machine, e: usize, n: usize)
+    requires { ⌜ length (now m) ≡ size ⌝ }
+    requires { ⌜ e < 16 ⌝ }
+    requires { ⌜ view (now m) .fixed .count ≤ 256 ⌝ }
+    requires { ⌜ 0 < length (view (now m) .requests 0 e) ⌝ }
+    ensures { λ _. ⌜ Becomes (now (m .exit)) (withRequests (view (now (m .entry))) 0 e (choose (ltb n (view (now (m .entry)) .fixed .count)) (n ∷ []) [])) ⌝ }
+{
+    if n < m[COUNT] as usize {
+        m[REQUESTS + e] = n as u64;
+        return;
+    }
+    m[REQUEST_LENGTHS] = words::with_length(m[REQUEST_LENGTHS], e, 0);
 }

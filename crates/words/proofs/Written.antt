@@ -1,12 +1,14 @@
 -- Digits as the code writes them: w is a word of 64 bits, p one of its k places.
 use Prim.Native.Nat.{ℕ, suc, _+_, _-_, _*_, _/_, _%_, _^_, _≤_, _<_}
 use mathlib.Core.Path.{_≡_, sym, ap, _∙_}
-use native.Mathlib.Nat.{add-comm, suc-mul, mul-comm, mul-le-mul-right, le-trans, le-of-eq, mod-le, mod-lt, mod-eq-of-lt, div-mul-le-self, div-div-eq-div-mul}
+use mathlib.Core.Logic.{_≢_}
+use native.Mathlib.Nat.{add-comm, suc-mul, mul-comm, mul-assoc, mul-le-mul-right, le-mul-of-pos-right, le-trans, le-of-eq}
+use native.Mathlib.Nat.{mod-le, mod-lt, mod-eq-of-lt, zero-mod, div-mul-le-self, div-div-eq-div-mul, div-add-mod', mul-div-cancel}
 use native.Mathlib.Omega.{arith}
 use lib.Pow.{pow-pos, pow-mono, shl-exact}
 use Rattle.lists.specs.Table.{update}
-use Rattle.words.specs.Digits.{digit, Pushed, Topped, Without}
-use Rattle.words.proofs.Digits.{place, Replaced, replaced, replaced-fits, digit-lt, digit-le, digit-pushed, digit-moved}
+use Rattle.words.specs.Digits.{digit, Above, Pushed, Topped, Without}
+use Rattle.words.proofs.Digits.{place, place-suc, Replaced, replaced, replaced-fits, digit-lt, digit-le, digit-none, digit-from, digit-pushed, digit-moved}
 use Rattle.words.proofs.Digits.{below-low, topped, topped-low, topped-high, without, without-low, without-high}
 
 pub one-shifted : (n : ℕ) → n < 64 → (1 * 2 ^ n) % 2 ^ 64 ≡ 2 ^ n
@@ -110,3 +112,42 @@ module _ (w i : ℕ) (a : i < 8) where
 
     pub removed-without : Without w i removed
     removed-without = rw removed-is record { below = without-low 8 w i; above = without-high 8 w i }
+
+-- ---- lengths
+
+module _ (w p : ℕ) (a : p < 16) (f : w < 2 ^ 64) where
+  abbrev above : ℕ
+  above = (((w / place 4 p / 16 * 16) % 2 ^ 64) * place 4 p) % 2 ^ 64
+
+  -- what stands above the place
+  abbrev high : ℕ
+  high = w / place 4 (suc p)
+
+  high-is : w / place 4 p / 16 ≡ high
+  high-is = rw (place-suc 4 p) (div-div-eq-div-mul w (place 4 p) 16)
+
+  high-within : high * place 4 (suc p) ≤ w
+  high-within = div-mul-le-self w (place 4 (suc p))
+
+  above-is : above ≡ high * place 4 (suc p)
+  above-is =
+      let e : high * 16 * place 4 p ≡ high * place 4 (suc p) = rw (place-suc 4 p, mul-assoc, mul-comm 16 (place 4 p)) in
+      let g : high * 16 * place 4 p < 2 ^ 64 = rw e (omega (arith, high-within)) in
+      let l : high * 16 < 2 ^ 64 = omega (arith, le-mul-of-pos-right (high * 16) (pow-pos (p * 4))) in
+      rw (high-is, mod-eq-of-lt l, mod-eq-of-lt g) e
+
+  -- as a word with nothing below the place behind it
+  topped-is : above ≡ topped 4 0 (suc p) high
+  topped-is = rw (above-is, zero-mod) (omega arith)
+
+  pub above-lengths : Above w p above
+  above-lengths = record {
+    gone = λ q l. rw topped-is (topped-low 4 0 (suc p) high q (omega arith) ∙ digit-none 4 q);
+    kept = λ q l.
+        let z : suc p + (q - suc p) ≡ q = omega arith in
+        let d : above / place 4 (suc p) ≡ high = rw above-is (mul-div-cancel high (pow-pos (suc p * 4))) in
+        rw z at (sym (digit-from 4 above (suc p) (q - suc p)) ∙ ap (λ (v : ℕ). digit 4 v (q - suc p)) d ∙ digit-from 4 w (suc p) (q - suc p));
+    less = λ n.
+        let some : w % place 4 (suc p) ≢ 0 = λ z. n (sym (below-low 4 w (suc p) p (omega arith)) ∙ ap (λ (v : ℕ). digit 4 v p) z ∙ digit-none 4 p) in
+        rw above-is (omega (arith, div-add-mod' w (place 4 (suc p)), some));
+  }

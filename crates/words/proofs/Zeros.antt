@@ -11,8 +11,8 @@ use lib.Bits.{shifted-half, shifted-even}
 use lib.Count.{trailingZeros, under}
 use lib.Pow.{pow-pos, shr-lt}
 use Rattle.lists.proofs.Tests.{by-cases}
-use Rattle.words.specs.Digits.{digit, NextBusy}
-use Rattle.words.proofs.Digits.{place, digit-from, digit-none, digit-zero, digit-suc, digits-same}
+use Rattle.words.specs.Digits.{digit, FirstBusy}
+use Rattle.words.proofs.Digits.{digit-none, digit-zero, digit-suc, digits-same}
 
 shifted : (n k z : ℕ) → trailingZeros (n + k) (z * 2 ^ n) ≡ n + trailingZeros k z
 unfolding trailingZeros
@@ -72,38 +72,16 @@ module _ (bits : ℕ) (b : 0 < bits) where
           lower zero l = digit-zero bits w ∙ z
           lower (suc p) l = digit-suc bits w p ∙ i .idle p (omega arith)
 
--- ---- the lengths from a place on
+-- ---- the lengths of a row
 
-module _ (w start : ℕ) (a : start < 16) where
-  abbrev left : ℕ
-  left = w / place 4 start
-
-  left-digit : (p : ℕ) → start ≤ p → digit 4 left (p - start) ≡ digit 4 w p
-  left-digit p g = digit-from 4 w start (p - start) ∙ ap (digit 4 w) (omega arith)
-
-  pub none-busy : left ≡ 0 → NextBusy w start 16
-  none-busy z = record {
-    above = omega arith;
-    below = omega arith;
-    idle = λ p g l. sym (left-digit p g) ∙ ap (λ (v : ℕ). digit 4 v (p - start)) z ∙ digit-none 4 (p - start);
-    busy = λ l. absurd (omega arith);
-  }
-
-  -- what is left has a digit that is not 0 among the places that are left
-  pub next-busy : w < 2 ^ 64 → left ≢ 0 → NextBusy w start (start + trailingZeros 64 left / 4)
-  next-busy f n = go (trailingZeros 64 left / 4) (first 4 (omega arith) 16 left)
-    where
-      go : (r : ℕ) → First 4 16 left r → NextBusy w start (start + r)
-      go r i =
-          let e : (16 - start) * 4 + start * 4 ≡ 64 = omega arith in
-          let small : left < place 4 (16 - start) = shr-lt ((16 - start) * 4) (start * 4) (rw e f) in
-          let inside : start + r < 16 =
-          by-cases (decLe (16 - start) r)
-          (λ (h : 16 - start ≤ r). absurd (n (digits-same 4 (16 - start) left 0 small (pow-pos ((16 - start) * 4)) (λ p l. i .idle p (omega arith) ∙ sym (digit-none 4 p)))))
-          (λ (h : ¬ (16 - start ≤ r)). omega arith) in
-          record {
-            above = omega arith;
-            below = omega arith;
-            idle = λ p g l. sym (left-digit p g) ∙ i .idle (p - start) (omega arith);
-            busy = λ l. (rw (digit-from 4 w start r) at (i .busy (omega arith)));
-          }
+-- a row that is not 0 has a length that is not
+pub first-busy : (w : ℕ) → w < 2 ^ 64 → w ≢ 0 → FirstBusy w (trailingZeros 64 w / 4)
+first-busy w f n = go (trailingZeros 64 w / 4) (first 4 (omega arith) 16 w)
+  where
+    go : (r : ℕ) → First 4 16 w r → FirstBusy w r
+    go r i =
+        let inside : r < 16 =
+        by-cases (decLe 16 r)
+        (λ (h : 16 ≤ r). absurd (n (digits-same 4 16 w 0 f (omega arith) (λ p l. i .idle p (omega arith) ∙ sym (digit-none 4 p)))))
+        (λ (h : ¬ (16 ≤ r)). omega arith) in
+        record { within = inside; idle = i .idle; busy = i .busy inside }

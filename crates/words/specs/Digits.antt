@@ -21,12 +21,17 @@ byteIn = digit 8
 abbrev pub bitIn : ℕ → ℕ → ℕ
 bitIn = digit 1
 
--- the first place at or above `from` whose length is not 0; 16 where there is none
-pub record NextBusy (w from r : ℕ) : Type 0 where
-  pub above : from ≤ r
-  pub below : r ≤ 16
-  pub idle : (p : ℕ) → from ≤ p → p < r → lengthIn w p ≡ 0
-  pub busy : r < 16 → lengthIn w r ≢ 0
+-- the lowest place whose length is not 0
+pub record FirstBusy (w r : ℕ) : Type 0 where
+  pub within : r < 16
+  pub idle : (p : ℕ) → p < r → lengthIn w p ≡ 0
+  pub busy : lengthIn w r ≢ 0
+
+-- r has the lengths of w above a place, and none up to it: it is less than w where w has one there
+pub record Above (w at r : ℕ) : Type 0 where
+  pub gone : (p : ℕ) → p ≤ at → lengthIn r p ≡ 0
+  pub kept : (p : ℕ) → at < p → lengthIn r p ≡ lengthIn w p
+  pub less : lengthIn w at ≢ 0 → r < w
 
 -- r is the lowest of k places at which w has the byte b; k where there is none
 pub record PlaceOf (k w b r : ℕ) : Type 0 where

@@ -1,9 +1,10 @@
 // Small numbers side by side in one word: lengths of four bits, tags of a byte, marks of one bit.
 ghost use mathlib.Core.Path.{_≡_};
+ghost use mathlib.Core.Logic.{_≢_};
 ghost use Prim.Native.Nat.{suc, _-_, _≤_, _<_};
 ghost use lib.Dec.{eqb};
 ghost use Rattle.lists.specs.Table.{update};
-ghost use Rattle.words.specs.Digits.{lengthIn, byteIn, bitIn, NextBusy, PlaceOf, Pushed, Topped, Without, LowBits};
+ghost use Rattle.words.specs.Digits.{lengthIn, byteIn, bitIn, FirstBusy, Above, PlaceOf, Pushed, Topped, Without, LowBits};
 
 // ---- sixteen lengths
 
@@ -36,16 +37,21 @@ pub fn one_less(row: u64, p: usize) -> u64
     row - (1u64 << (p * 4))
 }
 
-// The first place from `from` on whose length is not 0: a length below it would have a bit that is not 0.
-pub fn next_busy(row: u64, from: usize) -> usize
-    requires { ⌜ from < 16 ⌝ }
-    ensures { λ r. ⌜ NextBusy row from r ⌝ }
+// The lowest place whose length is not 0, of a row that has one: a length below it would have a bit that is not 0.
+pub fn first_busy(row: u64) -> usize
+    requires { ⌜ row ≢ 0 ⌝ }
+    ensures { λ r. ⌜ FirstBusy row r ⌝ }
 {
-    let left = row >> (from * 4);
-    if left == 0 {
-        return 16;
-    }
-    from + (u64::trailing_zeros(left) / 4) as usize
+    (u64::trailing_zeros(row) / 4) as usize
+}
+
+// The lengths above a place alone.
+pub fn lengths_above(row: u64, p: usize) -> u64
+    requires { ⌜ p < 16 ⌝ }
+    ensures { λ r. ⌜ Above row p r ⌝ }
+{
+    let s = p * 4;
+    (((row >> s) >> 4) << 4) << s
 }
 
 // ---- eight bytes

@@ -2,7 +2,7 @@
 use native.Mathlib.Omega.{arith}
 use borrow.Author.Needs.{needs}
 use Rattle.shown.specs.Reached.{single}
-use Rattle.requests.proofs.Onward.{rooms, Going, going-apart, going-few, full-moves, count-still-few, refused-moves, issue-goes, issued-moves}
+use Rattle.requests.proofs.Onward.{rooms, Going, going-apart, going-few, full-moves, count-still-few, source-filled, refused-moves, issue-goes, issued-moves}
 use Rattle.requests.proofs.issue.Statement.{statement}
 use Rattle.requests.proofs.issue.Tie as tie
 
@@ -24,27 +24,29 @@ is-full-requires c κs = (omega arith, omega arith, c .before .position-of .ensu
 returns : tie.Need-returns
 returns c = full-moves (goes (c .before .before .before)) (c .before .is-full .ensures) (c .if1 .taken)
 
+after-of-requires : tie.Need-after-of-requires
+after-of-requires c κs = search needs
+
 arrive-at-requires : tie.Need-arrive-at-requires
-arrive-at-requires c κs = let s = c .before .before .before .before .before .before .before .before in
-    let to = c .before .before .before .before in
+arrive-at-requires c κs = let s = c .before .before .before .before .before .before .before .before .before .before in
+    let to = c .before .before .before .before .before .before in
     let r = rooms (s .pre .0) in
     let few = going-few (goes to) in
     (s .pre .0 .sized, ((omega arith, omega arith, to .position-of .ensures .1, few .0, few .1), (r, going-apart (goes to))))
 
-after-of-requires : tie.Need-after-of-requires
-after-of-requires c κs = search needs
-
-set-next-requires : tie.Need-set-next-requires
-set-next-requires c κs = let s = c .before .before .before .before .before .before .before .before .before .before .before .before .before in
-    let went = c .before .before .before .before .arrive-at .ensures in
-    (went .sized, (s .pre .1 .0, count-still-few (goes (c .before .before .before .before .before .before .before .before .before)) went))
+replace-next-requires : tie.Need-replace-next-requires
+replace-next-requires c κs = let a = c .before .before in
+    let to = a .before .before .before .before .before .before .before in
+    let went = a .arrive-at .ensures in
+    (went .sized, (to .before .before .before .before .pre .1 .0, (count-still-few (goes to) went, source-filled (goes to) went)))
 
 returns-2 : tie.Need-returns-2
-returns-2 c = let a = c .before .before .before .before in
-    issued-moves (goes (a .before .before .before .before .before .before)) (a .before .arrive-at .ensures) (a .if2 .taken) (c .before .before .after-of .ensures) (c .set-next .ensures)
+returns-2 c = let a = c .before .before .before in
+    issued-moves (goes (a .before .before .before .before .before .before .before)) (a .arrive-at .ensures) (c .before .before .if2 .taken) (a .before .before .after-of .ensures) (c .replace-next .ensures)
 
 returns-3 : tie.Need-returns-3
-returns-3 c = refused-moves (goes (c .before .before .before .before .before .before)) (c .before .arrive-at .ensures) (c .if2 .left)
+returns-3 c = let a = c .before in
+    refused-moves (goes (a .before .before .before .before .before .before .before)) (a .arrive-at .ensures) (c .if2 .left)
 
 pub issue-spec : {M : Type 1} → statement M
 issue-spec =
@@ -54,8 +56,8 @@ issue-spec =
     position-of-requires
     is-full-requires
     returns
-    arrive-at-requires
     after-of-requires
-    set-next-requires
+    arrive-at-requires
+    replace-next-requires
     returns-2
     returns-3)

@@ -1,45 +1,46 @@
 -- `modules` meets its contract.
-use Prim.Native.Nat.{_-_}
 use native.Mathlib.Omega.{arith}
 use borrow.Author.Needs.{needs}
-use Rattle.rounds.proofs.Rows.{Served, row-level, served-begins, served-ready, served-full, served-ends, served-rests, served-goes}
+use Rattle.rounds.proofs.Rows.{Served, levels-within, served-begins, served-ready, served-full, served-rests, served-goes}
 use Rattle.rounds.proofs.modules.Statement.{statement}
 use Rattle.rounds.proofs.modules.Tie as tie
 
 abbrev Inv-loop : tie.InvT-loop
-Inv-loop m₀ words₀ k p₀ m words p = Served k m₀ words₀ m words p
+Inv-loop m₀ words₀ k left₀ m words left = Served k m₀ words₀ m words left
 
 abbrev μ-loop : tie.MeasureT-loop
-μ-loop m₀ words₀ k p₀ m words p = 16 - p
+μ-loop m₀ words₀ k left₀ m words left = left
 
 levels-requires : tie.Need-levels-requires Inv-loop μ-loop
 levels-requires c κs = search needs
 
+request-row-requires : tie.Need-request-row-requires Inv-loop μ-loop
+request-row-requires c κs = omega (arith, c .before .levels .ensures, levels-within (c .before .before .before .pre .stands) .1)
+
 loop-holds : tie.Need-loop-holds Inv-loop μ-loop
-loop-holds c = served-begins (c .levels .ensures) (c .before .before .pre)
+loop-holds c = served-begins (c .before .before .levels .ensures) (c .before .before .before .before .pre) (c .request-row .ensures)
 
-next-request-requires : tie.Need-next-request-requires Inv-loop μ-loop
-next-request-requires c κs = (row-level (c .before .before .loop .inv .row), c .before .loop-test .taken)
-
-returns : tie.Need-returns Inv-loop μ-loop
-returns c = served-rests (c .before .before .before .before .loop .inv) (c .before .next-request .ensures) (c .if1 .taken)
+first-busy-requires : tie.Need-first-busy-requires Inv-loop μ-loop
+first-busy-requires c κs = c .loop-test .taken
 
 module-step-requires : tie.Need-module-step-requires Inv-loop μ-loop
-module-step-requires c κs = let A = c .before .before .before .before .before .before .loop .inv in
-    (served-ready A, served-full A (c .before .before .before .next-request .ensures) (c .before .before .if1 .left))
+module-step-requires c κs =
+    let A = c .before .before .before .before .loop .inv in
+    (served-ready A, served-full A (c .before .before .first-busy .ensures))
 
-add-p : tie.Need-add-p Inv-loop μ-loop
-add-p c = search needs
+lengths-above-requires : tie.Need-lengths-above-requires Inv-loop μ-loop
+lengths-above-requires c κs = c .before .before .before .first-busy .ensures .within
 
 loop-less : tie.Need-loop-less Inv-loop μ-loop
-loop-less c = omega (arith, c .before .before .before .before .next-request .ensures .above, c .before .before .before .if1 .left)
+loop-less c = c .lengths-above .ensures .less (c .before .before .before .before .first-busy .ensures .busy)
 
 loop-again : tie.Need-loop-again Inv-loop μ-loop
-loop-again c = let i = c .before .before .before in
-    served-goes (i .before .before .before .before .loop .inv) (i .before .next-request .ensures) (i .if1 .left) _ _ (c .module-step .ensures)
+loop-again c =
+    let first = c .before .before .before .before in
+    served-goes (first .before .before .loop .inv) (first .first-busy .ensures) (c .lengths-above .ensures) _ _ (c .before .module-step .ensures)
 
-returns-2 : tie.Need-returns-2 Inv-loop μ-loop
-returns-2 c = served-ends (c .before .loop .inv) (c .loop-test .left)
+returns : tie.Need-returns Inv-loop μ-loop
+returns c = served-rests (c .before .loop .inv) (c .loop-test .left)
 
 pub modules-spec : {M : Type 1} → statement M
 modules-spec =
@@ -48,11 +49,11 @@ modules-spec =
     Inv-loop
     μ-loop
     levels-requires
+    request-row-requires
     loop-holds
-    next-request-requires
-    returns
+    first-busy-requires
     module-step-requires
-    add-p
+    lengths-above-requires
     loop-less
     loop-again
-    returns-2)
+    returns)
