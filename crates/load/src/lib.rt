@@ -20,7 +20,7 @@ pub fn load(s: &[u8], given: &mut [u8; 256], words: &mut [u64; 256], m: &mut Mac
     requires { ⌜ (now given ≡ replicate 256 0) × (now words ≡ replicate 256 0) × (now m ≡ replicate machineSize 0) ⌝ }
     ensures { λ r. ⌜ Loaded (now (s .entry)) r (now (given .exit)) (now (words .exit)) (now (m .exit)) ⌝ }
 {
-    if s.len() > 65536 {
+    if s.len() > trace::LONGEST {
         return Answer::Refused(Fault::Long, 0);
     }
     let mut p = Progress::start();

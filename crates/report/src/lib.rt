@@ -13,6 +13,9 @@ ghost use Rattle.report.specs.Names.{Marked};
 ghost use Rattle.report.specs.Lines.{Printable, repliesIn, ordersIn, textIn};
 ghost use Rattle.report.specs.Written.{Reported};
 
+// Room for every report, in bytes.
+pub const ROOM: usize = 49344;
+
 // Whether the buffer has room for every report, and the length of the report.
 pub struct Written {
     pub fits: bool,
@@ -23,7 +26,7 @@ pub struct Written {
 pub fn report(trace: &[u8], out: &mut [u8]) -> Written
     ensures { λ r. ⌜ Reported (now (trace .entry)) (now (out .entry)) r (now (out .exit)) ⌝ }
 {
-    if out.len() < 49344 {
+    if out.len() < ROOM {
         return Written {
             fits: false,
             len: 0,

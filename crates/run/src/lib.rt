@@ -35,7 +35,7 @@ fn acts_from(trace: &[u8], from: usize, m: &mut Machine, words: &mut [u64; 256])
             }
             Due::Event(what, level, position) => {
                 network::step(m, words, what, level as usize, position as usize);
-                at += 7;
+                at += acts::EVENT_SIZE;
             }
             Due::Drain(allowed) => {
                 rounds::drain(m, words, allowed);
@@ -43,7 +43,7 @@ fn acts_from(trace: &[u8], from: usize, m: &mut Machine, words: &mut [u64; 256])
                 if rounds::all_answered(m) {
                     return;
                 }
-                at += 6;
+                at += acts::DRAIN_SIZE;
             }
         }
     }

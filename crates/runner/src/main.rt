@@ -42,7 +42,7 @@ fn read_all(buffer: &mut [u8]) -> Input
 
 // The report of what was read, to standard output.
 fn write_report(trace: &[u8]) {
-    let mut text = [0u8; 49344];
+    let mut text = [0u8; report::ROOM];
     let written = report::report(trace, &mut text);
     let m = written.len;
     if !io::write_all(STDOUT_FILENO, &text[..m]) {
@@ -52,7 +52,7 @@ fn write_report(trace: &[u8]) {
 
 fn main() {
     // one byte more than the longest trace, so that a longer one is told from it
-    let mut trace = [0u8; 65537];
+    let mut trace = [0u8; trace::LONGEST + 1];
     let input = read_all(&mut trace);
     if !input.ended {
         io::write_all(STDERR_FILENO, b"runner: standard input cannot be read\n");

@@ -11,6 +11,9 @@ pub mod reader;
 pub mod record;
 pub mod rules;
 
+// How many bytes the longest trace has.
+pub const LONGEST: usize = 65536;
+
 // What a trace is refused for, in the order of the paper's numbers, from 1.
 pub enum Fault {
     Cut,

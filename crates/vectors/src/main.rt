@@ -164,8 +164,8 @@ fn main() {
     let mut head = [0u8; 10];
     let mut name = [0u8; 256];
     let mut trace = [0u8; 65600];
-    let mut expected = [0u8; 49344];
-    let mut text = [0u8; 49344];
+    let mut expected = [0u8; report::ROOM];
+    let mut text = [0u8; report::ROOM];
     let tally = compare_all(&mut head, &mut name, &mut trace, &mut expected, &mut text);
     if tally.broken {
         io::write_all(STDOUT_FILENO, b"the vectors are out of form\n");
