@@ -62,3 +62,7 @@ module _ (firsts seconds n : ℕ) where
 
     pub find-nowhere : n ≤ i → foundAt (pairsIn firsts seconds n) Nowhere ≡ firstOf (firstIs t) (pairsIn firsts seconds n)
     find-nowhere l = sym (firstOf-below-none (firstIs t) n (pairIn firsts seconds) (λ j m. below j (omega arith)))
+
+  -- of no records
+  pub find-none : (t : ℕ) → n ≡ 0 → foundAt (pairsIn firsts seconds n) Nowhere ≡ firstOf (firstIs t) (pairsIn firsts seconds n)
+  find-none t e = sym (firstOf-below-none (firstIs t) n (pairIn firsts seconds) (λ j m. absurd (omega arith)))

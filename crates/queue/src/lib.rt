@@ -87,6 +87,9 @@ impl Pairs {
         requires { ⌜ HeldPairs self ⌝ }
         ensures { λ r. ⌜ foundAt (pairsOf self) r ≡ firstOf (λ (p : Pair). eqb (p .first) t) (pairsOf self) ⌝ }
     {
+        if self.len == 0 {
+            return Place::Nowhere;
+        }
         let i = words::place_of(self.firsts, t);
         if i < self.len {
             return Place::At(i);
