@@ -20,7 +20,7 @@ use Rattle.load.specs.Loaded.{Loaded}
 use Rattle.trace.specs.Known.{Known, RecordFault, begun}
 use Rattle.load.specs.Loop.{LoadedSoFar, Keeps, reading, Decided, Inside, TurnRight}
 use Rattle.trace.specs.declared.Fault.{Fault}
-use Rattle.trace.specs.declared.Fault.the-variants.{Cut, Kind, Length, Order, Range, Twice, Operand, Step, Many, Long}
+use Rattle.trace.specs.declared.Fault.the-variants.{Long}
 use Rattle.trace.specs.declared.Answer.{Answer}
 use Rattle.trace.specs.declared.Answer.the-variants.{Refused}
 use Rattle.trace.specs.declared.rules.Finding.the-variants.{Clean, Faulty}
@@ -28,6 +28,7 @@ use Rattle.trace.specs.declared.progress.Progress.{Progress}
 use Rattle.load.specs.declared.turn.Turn.the-variants.{Stop, Fail, Go}
 use Rattle.trace.proofs.Records.{size-item, records-nothing, records-faulty, records-whole}
 use Rattle.load.proofs.Machine.{none-held}
+use Rattle.trace.proofs.Answers.{number-range}
 use Rattle.trace.proofs.Ranges.{section-some, requests-few, engine-below}
 
 -- the verdict where a whole record stands
@@ -35,18 +36,6 @@ check-whole : (before : Items) (s : List ℕ) (kind : ℕ) (b : List ℕ) → sp
     checkRecords before (records s) ≡ decide (fault before (item kind b)) before (checkRecords (after before (item kind b)) (records (drop (4 + length b) s)))
 unfolding checkRecords
 check-whole before s kind b e = rw (records-whole s kind b e)
-
-number-some : (f : Fault) → numberOf f ≢ 0
-number-some Cut = λ e. omega arith
-number-some Kind = λ e. omega arith
-number-some Length = λ e. omega arith
-number-some Order = λ e. omega arith
-number-some Range = λ e. omega arith
-number-some Twice = λ e. omega arith
-number-some Operand = λ e. omega arith
-number-some Step = λ e. omega arith
-number-some Many = λ e. omega arith
-number-some Long = λ e. omega arith
 
 decide-some : (n : ℕ) (before : Items) (rest : Verdict) → n ≢ 0 → decide n before rest ≡ refused n before
 unfolding decide
@@ -71,7 +60,7 @@ module _ {s : List ℕ} {p : Progress} {marks words m : List ℕ} (i : Inside s 
     pub turn-fault : (f : Fault) → RecordFault p marks (item kind b) (Faulty f) → TurnRight s p marks words m (Fail f)
     turn-fault f found =
         let r = i .so-far in
-        decided-as r (check-whole (r .before) (drop (p .at) s) kind b e ∙ rw (← (found .is (r .before) (r .known))) (decide-some (numberOf f) (r .before) _ (number-some f)))
+        decided-as r (check-whole (r .before) (drop (p .at) s) kind b e ∙ rw (← (found .is (r .before) (r .known))) (decide-some (numberOf f) (r .before) _ (λ e. omega (arith, e, number-range f .0))))
 
     pub low-engine : RecordFault p marks (item kind b) Clean → kind ≡ 3 → getD b 0 0 < 2 ^ p .k
     unfolding item

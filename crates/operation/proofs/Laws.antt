@@ -23,6 +23,15 @@ pub sum-assoc : (x y z : ℕ) → sum x (sum y z) ≡ sum (sum x y) z
 unfolding sum
 sum-assoc x y z = omega arith
 
+-- ---- codes
+-- an operation's code is a byte: what holds it in memory needs no other law of codes
+pub code-byte : (f : Operation) → codeOf f < 256
+unfolding codeOf
+code-byte Load = omega arith
+code-byte (Swap v) = omega arith
+code-byte (Add a) = omega arith
+code-byte (Mask a b) = omega arith
+
 -- ---- merged, by the document's rules
 -- "load then g is g"
 pub load-then : (g : Operation) → merged Load g ≡ One g

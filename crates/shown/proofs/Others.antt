@@ -14,7 +14,7 @@ use Rattle.event.specs.Event.{levelFits}
 use Rattle.machine.specs.Setup.{Setup, Message, WaitRecord, Reply, place}
 use Rattle.machine.specs.State.{State}
 use Rattle.machine.specs.Arrival.{Arrival, merged, appended, refused, arrive, oldestOf}
-use Rattle.machine.specs.Steps.{landed, nodeAt, forwardOldest, forwardStep, taken, serveOldest, moduleStep, answered, split, lowered, ifRoom, returnOldest, returnStep, collectOldest, collectStep}
+use Rattle.machine.specs.Steps.{landed, nodeAt, forwardOldest, forwardStep, taken, serveOldest, moduleStep, answered, split, lowered, returnOldest, returnStep, collectOldest, collectStep}
 use Rattle.machine.specs.Run.{runEvents}
 use Rattle.view.specs.View.{View}
 use Rattle.shown.specs.Network.{Network, setup}

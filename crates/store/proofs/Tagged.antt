@@ -10,10 +10,9 @@ use lib.Seq.{getD-set-same, getD-set-other}
 use Rattle.lists.specs.Table.{update}
 use Rattle.lists.proofs.Tables.{update-same, update-other}
 use Rattle.operation.specs.declared.Operation.{Operation}
-use Rattle.operation.specs.declared.Operation.the-variants.{Load, Swap, Add, Mask}
 use Rattle.operation.specs.declared.Words.{Words}
 use Rattle.operation.specs.Operation.{wordsOf}
-use Rattle.operation.specs.Operation as operation
+use Rattle.operation.proofs.Laws.{code-byte}
 use Rattle.view.specs.View.{Fixed, withFixed, withCarried, withRequest, linked}
 use Rattle.store.specs.Layout.{size, atK, atQ, atW, atCount, atEvery, atHeads, atFirstOperands, atSecondOperands}
 use Rattle.store.specs.Memory.{columnAt, codeOf, addressOf, pathOf, afterOf, fixedIn, carriedIn, view, Becomes}
@@ -119,11 +118,7 @@ module _ (m m′ : List ℕ) (t h f s : ℕ) (l : t < 256) (w : Written m m′ t
 -- ---- as the code writes them
 
 pub code-below : (f : Operation) (x : Words) → x ≡ wordsOf f → x .code < 256
-unfolding operation.codeOf
-code-below Load x e = rw e (omega arith)
-code-below (Swap v) x e = rw e (omega arith)
-code-below (Add v) x e = rw e (omega arith)
-code-below (Mask v y) x e = rw e (omega arith)
+code-below f x e = rw e (code-byte f)
 
 abbrev three : List ℕ → ℕ → ℕ → ℕ → ℕ → List ℕ
 three m t h f s = set (set (set m (atHeads + t) h) (atFirstOperands + t) f) (atSecondOperands + t) s

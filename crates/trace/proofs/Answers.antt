@@ -1,6 +1,7 @@
--- A number tells its fault.
-use Prim.Native.Nat.{ℕ}
+-- A number tells its fault, and is in the range of the table.
+use Prim.Native.Nat.{ℕ, _≤_}
 use mathlib.Core.Path.{_≡_, refl, ap, sym, _∙_}
+use native.Mathlib.Omega.{arith}
 use lib.Dec.{eqb}
 use Rattle.lists.specs.Choice.{choose}
 use Rattle.trace.specs.Answers.{numberOf}
@@ -34,3 +35,16 @@ fault-of-number Long = refl
 
 pub number-tells : (f g : Fault) → numberOf f ≡ numberOf g → f ≡ g
 number-tells f g e = sym (fault-of-number f) ∙ ap faultOf e ∙ fault-of-number g
+
+-- it is none of the numbers that are told otherwise: 0 where nothing is refused, 11 for lent room
+pub number-range : (f : Fault) → (1 ≤ numberOf f) × (numberOf f ≤ 10)
+number-range Cut = (omega arith, omega arith)
+number-range Kind = (omega arith, omega arith)
+number-range Length = (omega arith, omega arith)
+number-range Order = (omega arith, omega arith)
+number-range Range = (omega arith, omega arith)
+number-range Twice = (omega arith, omega arith)
+number-range Operand = (omega arith, omega arith)
+number-range Step = (omega arith, omega arith)
+number-range Many = (omega arith, omega arith)
+number-range Long = (omega arith, omega arith)

@@ -4,9 +4,7 @@ use Prim.Native.Nat.{ℕ, _≤_}
 use mathlib.Core.Path.{_≡_, sym, _∙_, ap}
 use mathlib.Core.List.{List}
 use native.Mathlib.Omega.{arith}
-use Rattle.trace.specs.Answers.{numberOf}
-use Rattle.trace.specs.declared.Fault.{Fault}
-use Rattle.trace.specs.declared.Fault.the-variants.{Cut, Kind, Length, Order, Range, Twice, Operand, Step, Many, Long}
+use Rattle.trace.proofs.Answers.{number-range}
 use Rattle.model.specs.Result.{Lent}
 use Rattle.model.specs.Promise.{Said, refused, counted, says}
 use Rattle.model.specs.declared.Answer.{Answer}
@@ -31,21 +29,9 @@ abbrev Numbered : Said → Type 0
 Numbered (refused n offset) = 1 ≤ n
 Numbered (counted ordered accesses merges rounds) = Unit {0}
 
-number-some : (f : Fault) → 1 ≤ numberOf f
-number-some Cut = omega arith
-number-some Kind = omega arith
-number-some Length = omega arith
-number-some Order = omega arith
-number-some Range = omega arith
-number-some Twice = omega arith
-number-some Operand = omega arith
-number-some Step = omega arith
-number-some Many = omega arith
-number-some Long = omega arith
-
 numbered : (a : Answer) → Numbered (says a)
 numbered (Accepted c) = tt
-numbered (Refused f offset) = number-some f
+numbered (Refused f offset) = number-range f .0
 numbered NoRoom = omega arith
 
 refusal-is : {r r′ : Numbers} → r ≡ r′ → r .refusal ≡ r′ .refusal

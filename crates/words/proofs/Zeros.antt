@@ -9,7 +9,7 @@ use native.Mathlib.Omega.{arith}
 use lib.Arith.{mod-mul}
 use lib.Bits.{shifted-half, shifted-even}
 use lib.Count.{trailingZeros, under}
-use lib.Pow.{pow-pos, shr-lt}
+use lib.Pow.{pow-pos}
 use Rattle.lists.proofs.Tests.{by-cases}
 use Rattle.words.specs.Digits.{digit, FirstBusy}
 use Rattle.words.proofs.Digits.{digit-none, digit-zero, digit-suc, digits-same}
