@@ -6,10 +6,6 @@ use native.Mathlib.Omega.{arith}
 use borrow.Author.Needs.{needs}
 use Rattle.runner.proofs.read_all.Statement.{statement}
 use Rattle.runner.proofs.read_all.Tie as tie
-use Rattle.runner.proofs.read_all.Reads as reads
-use Rattle.runner.proofs.read_all.Lts as lts
-use Rattle.io.proofs.count.Reads as count-reads
-use Rattle.libc.proofs.read.Reads as read-reads
 
 abbrev Inv-loop : tie.InvT-loop
 Inv-loop buffer₀ got₀ reads₀ buffer got reads = (got ≤ length buffer) × (length buffer ≡ length buffer₀)

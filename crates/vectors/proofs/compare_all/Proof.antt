@@ -4,9 +4,6 @@ use lib.ListN.{length}
 use borrow.Author.Needs.{needs}
 use Rattle.vectors.proofs.compare_all.Statement.{statement}
 use Rattle.vectors.proofs.compare_all.Tie as tie
-use Rattle.vectors.proofs.compare_all.Reads as reads
-use Rattle.vectors.proofs.compare_all.Lts as lts
-use Rattle.vectors.proofs.compare_next.Reads as compare-next-reads
 
 abbrev Inv-loop : tie.InvT-loop
 Inv-loop head₀ name₀ trace₀ expected₀ text₀ ran₀ differ₀ head name trace expected text ran differ =

@@ -4,9 +4,6 @@ use native.Mathlib.Omega.{arith}
 use borrow.Author.Needs.{needs}
 use Rattle.vectors.proofs.filled.Statement.{statement}
 use Rattle.vectors.proofs.filled.Tie as tie
-use Rattle.vectors.proofs.filled.Reads as reads
-use Rattle.vectors.proofs.filled.Lts as lts
-use Rattle.io.proofs.read_full.Reads as read-full-reads
 
 -- src/main.rt:36:9
 returns : tie.Need-returns

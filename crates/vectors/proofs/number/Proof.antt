@@ -1,9 +1,6 @@
 use borrow.Author.Needs.{needs}
 use Rattle.vectors.proofs.number.Statement.{statement}
 use Rattle.vectors.proofs.number.Tie as tie
-use Rattle.vectors.proofs.number.Reads as reads
-use Rattle.vectors.proofs.number.Lts as lts
-use Rattle.vectors.proofs.wide.Reads as wide-reads
 
 abbrev Inv-loop : tie.InvT-loop
 Inv-loop bytes at count i₀ n₀ i n = Unit {0}

@@ -4,10 +4,6 @@ use native.Mathlib.Omega.{arith}
 use borrow.Author.Needs.{needs}
 use Rattle.vectors.proofs.reported.Statement.{statement}
 use Rattle.vectors.proofs.reported.Tie as tie
-use Rattle.vectors.proofs.reported.Reads as reads
-use Rattle.vectors.proofs.reported.Lts as lts
-use Rattle.check.proofs.same.Reads as same-reads
-use Rattle.report.proofs.report.Reads as report-reads
 
 -- src/main.rt:51:9
 returns : tie.Need-returns

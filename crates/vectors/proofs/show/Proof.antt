@@ -4,9 +4,6 @@ use native.Mathlib.Omega.{arith}
 use borrow.Author.Needs.{needs}
 use Rattle.vectors.proofs.show.Statement.{statement}
 use Rattle.vectors.proofs.show.Tie as tie
-use Rattle.vectors.proofs.show.Reads as reads
-use Rattle.vectors.proofs.show.Lts as lts
-use Rattle.io.proofs.write_all.Reads as write-all-reads
 
 -- src/main.rt:44:38
 slice-aggregate-write-all : tie.Need-slice-aggregate-write-all
