@@ -94,11 +94,6 @@ module _ {A : Type 0} where
   getD-down d (suc n) f zero l = ap f (omega arith)
   getD-down d (suc n) f (suc i) l = getD-down d n f i (omega arith) ∙ ap f (omega arith)
 
-  pub down-same : (n : ℕ) (f g : ℕ → A) → ((i : ℕ) → i < n → f i ≡ g i) → downFrom n f ≡ downFrom n g
-  unfolding downFrom
-  down-same zero f g h = refl
-  down-same (suc n) f g h = rw (h n (omega arith), down-same n f g (λ i l. h i (omega arith)))
-
   pub all-down : {P : A → Type 0} (n : ℕ) (f : ℕ → A) → ((i : ℕ) → i < n → P (f i)) → All P (downFrom n f)
   unfolding downFrom
   all-down zero f h = nil

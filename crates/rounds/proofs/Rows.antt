@@ -19,7 +19,7 @@ use Rattle.machine.specs.Run.{row}
 use Rattle.view.specs.View.{Fixed, View}
 use Rattle.shown.specs.Network.{Network}
 use Rattle.shown.specs.Reached.{Stands, Moved, single, restsAt}
-use Rattle.shown.proofs.Levels.{modules-fit, module-level, level-low, row-named}
+use Rattle.shown.proofs.Levels.{modules-fit, module-level, row-named}
 use Rattle.shown.proofs.Reaching.{moved-stands}
 use Rattle.shown.proofs.Below.{busy-below}
 use Rattle.shown.proofs.Moving.{row-none, row-onward}
@@ -121,9 +121,6 @@ module _ {I : Type 0} {what level : ℕ} {m₀ : List ℕ} {w₀ : I → ℕ →
     -- the machine has as many levels as before
     pub row-same : view m .fixed .k ≡ view m₀ .fixed .k
     row-same = ap (λ (f : Fixed). f .k) (A .moved (A .network) (A .which) (A .stood) .fixed)
-
-    pub row-level : level < 5
-    row-level = level-low (view m₀ .fixed .k) what level (levels-within (A .stood) .1) (A .fits)
 
     row-width : 2 ^ view m₀ .fixed .k ≤ 16
     row-width = width-small (view m₀ .fixed .k) (levels-within (A .stood) .1)

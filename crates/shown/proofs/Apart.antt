@@ -65,9 +65,6 @@ module _ {S : Setup} where
   pub wait-elsewhere : (s p s′ p′ : ℕ) → ¬ ((s ≡ s′) × (p ≡ p′)) → _≢_ {A = Where S} (waiting s p) (waiting s′ p′)
   wait-elsewhere s p s′ p′ n e = n (cc, cc)
 
-  pub reply-elsewhere : (s p s′ p′ : ℕ) → ¬ ((s ≡ s′) × (p ≡ p′)) → _≢_ {A = Where S} (replying s p) (replying s′ p′)
-  reply-elsewhere s p s′ p′ n e = n (cc, cc)
-
 -- ---- one place for each tag, of any state
 module _ (S : Setup) (st : State S) (P : OnePlace S st) where
   abbrev at : ℕ → Where S → ℕ
@@ -135,14 +132,8 @@ module _ (x : Network) where
     alone t w w′ h g = by-cases (where-discrete w w′) (λ (e : w ≡ w′). e) (λ (n : w ≢ w′). absurd (omega (arith, A .elsewhere t w′ w g n)))
 
     -- ---- tags in queues and buffers are of requests
-    pub requests-below : (s p : ℕ) → All (λ t. t < x .R) (tagsAt x v s p)
-    requests-below s p = counted-all (λ (u : ℕ). u) (λ t. t < x .R) (tagsAt x v s p) (λ t h. A .below t (requested s p) h)
-
     pub waits-below : (s p : ℕ) → All (λ (r : Pair). r .second < x .R) (v .waits s p)
     waits-below s p = counted-all (λ (r : Pair). r .second) (λ t. t < x .R) (v .waits s p) (λ t h. A .below t (waiting s p) h)
-
-    pub replies-below : (s p : ℕ) → All (λ t. t < x .R) (v .replies s p)
-    replies-below s p = counted-all (λ (u : ℕ). u) (λ t. t < x .R) (v .replies s p) (λ t h. A .below t (replying s p) h)
 
     -- what stands in a queue or a buffer is not answered
     pub unanswered : (t : ℕ) (w : Where (setup x)) → 0 < tagTimes v t w → w ≢ answered → v .answered t ≡ false

@@ -50,18 +50,9 @@ module _ (x : Network) (v v′ : View) where
       go u true e = rw (h u e)
       go u false e = refl
 
-  -- by level and position
-  pub messages-all : v′ .fixed ≡ v .fixed → (f : ℕ → ℕ → List ℕ) → ((s p u : ℕ) → 0 < count (λ (t : ℕ). t) u (f s p) → v′ .carried u ≡ v .carried u) →
-      _≡_ {A = ℕ → ℕ → List (Message (setup x))} (λ s p. map (messageOf x v′) (f s p)) (λ s p. map (messageOf x v) (f s p))
-  messages-all same f h = fun-ext (λ s. fun-ext (λ p. messages-same same (f s p) (h s p)))
-
   pub records-all : (f : ℕ → ℕ → List Pair) → ((s p u : ℕ) → 0 < count (λ (r : Pair). r .second) u (f s p) → v′ .carried u ≡ v .carried u) →
       _≡_ {A = ℕ → ℕ → List (WaitRecord (setup x))} (λ s p. map (recordOf x v′) (f s p)) (λ s p. map (recordOf x v) (f s p))
   records-all f h = fun-ext (λ s. fun-ext (λ p. records-same (f s p) (h s p)))
-
-  pub replies-all : (f : ℕ → ℕ → List ℕ) → ((s p u : ℕ) → 0 < count (λ (t : ℕ). t) u (f s p) → v′ .carried u ≡ v .carried u) →
-      _≡_ {A = ℕ → ℕ → List (Reply (setup x))} (λ s p. map (replyOf x v′) (f s p)) (λ s p. map (replyOf x v) (f s p))
-  replies-all f h = fun-ext (λ s. fun-ext (λ p. replies-same (f s p) (h s p)))
 
 -- ---- one tag carries something else: what stands in lists without that tag is shown as it was
 module _ (x : Network) (v : View) (t : ℕ) (c : Words) where
@@ -103,10 +94,6 @@ module _ (x : Network) (v : View) where
   abbrev pub tagsIn : ℕ → ℕ → List ℕ → List ℕ
   tagsIn zero e l = unissued x e l
   tagsIn (suc s) p l = l
-
-  pub tags-in : (s p : ℕ) → tagsAt x v s p ≡ tagsIn s p (v .requests s p)
-  tags-in zero p = refl
-  tags-in (suc s) p = refl
 
   -- above the engines the queue is the list
   pub tags-above : (s p : ℕ) → 0 < s → tagsAt x v s p ≡ v .requests s p

@@ -3,7 +3,7 @@ use Prim.Native.Nat.{ℕ}
 use mathlib.Core.Path.{_≡_, refl, sym, fun-ext}
 use mathlib.Core.Logic.{_≢_}
 use mathlib.Core.Bool.{true}
-use mathlib.Core.List.{List, [], _∷_}
+use mathlib.Core.List.{List, _∷_}
 use mathlib.Core.Option.{some}
 use native.Mathlib.Decide.{ℕ-discrete}
 use Rattle.lists.specs.Table.{update}
@@ -21,10 +21,6 @@ module _ (x : Network) (v : View) (words : ℕ → ℕ) where
   answer-set t = fun-ext (λ u. by-cases (ℕ-discrete u t)
       (λ (e : u ≡ t). rw (e, update-same (v .answered) t true) (sym (update-same (answerOf x v) t (some (v .carried t .first)))))
       (λ (n : u ≢ t). rw (update-other (v .answered) t true n) (sym (update-other (answerOf x v) t (some (v .carried t .first)) n))))
-
-  pub collect-rests : (e : ℕ) → v .replies 0 e ≡ [] → shown x v words ≡ collectStep (setup x) e (shown x v words)
-  unfolding shown collectStep collectOldest
-  collect-rests e is = rw is
 
   pub collect-shows : (e t : ℕ) (rest : List ℕ) → v .replies 0 e ≡ t ∷ rest →
       shown x (withAnswer (withReplies v 0 e rest) t) words ≡ collectStep (setup x) e (shown x v words)

@@ -60,9 +60,6 @@ module _ (x : Network) (e : ℕ) where
   own-end t h = let z : x .R - t ≡ 0 = omega arith in rw z
 
   -- ---- the next request from t on
-  pub next-from : (t : ℕ) → t ≤ nextOf x e t
-  next-from t = first-from (x .R - t) t
-
   pub next-within : (t : ℕ) → t ≤ x .R → nextOf x e t ≤ x .R
   next-within t h = omega (arith, first-within (x .R - t) t)
 

@@ -5,9 +5,9 @@ use mathlib.Core.Bool.{Bool, true, false}
 use mathlib.Core.List.{List, [], _∷_, _++_, map}
 use native.Mathlib.Omega.{arith}
 use Rattle.lists.specs.Choice.{choose}
-use Rattle.lists.specs.Search.{Found, absent, found, behind, orElse, firstOf, lastOf, only, All, nil, cons}
+use Rattle.lists.specs.Search.{Found, absent, found, behind, orElse, firstOf, lastOf, All, nil, cons}
 use Rattle.lists.specs.Count.{count}
-use Rattle.lists.proofs.Every.{all-head, all-tail, all-map}
+use Rattle.lists.proofs.Every.{all-map}
 use Rattle.lists.proofs.Searches.{First, firstOf-is}
 use Rattle.lists.proofs.Counts.{same-yes, count-append}
 
@@ -40,15 +40,6 @@ module _ {A B : Type 0} (f : A → B) where
         go absent false = refl
         go (found before it after) b = refl
 
-    pub only-map : (l : List A) → only test (map f l) ≡ map f (only (λ x. test (f x)) l)
-    unfolding only
-    only-map [] = refl
-    only-map (x ∷ xs) = rw (only-map xs) (go (test (f x)))
-      where
-        go : (b : Bool) → choose b (f x ∷ map f (only (λ x. test (f x)) xs)) (map f (only (λ x. test (f x)) xs)) ≡ map f (choose b (x ∷ only (λ x. test (f x)) xs) (only (λ x. test (f x)) xs))
-        go true = refl
-        go false = refl
-
   pub count-map : (key : B → ℕ) (u : ℕ) (l : List A) → count key u (map f l) ≡ count (λ x. key (f x)) u l
   count-map key u [] = refl
   count-map key u (x ∷ xs) = rw (count-map key u xs)
@@ -61,11 +52,6 @@ module _ {A B : Type 0} (f : A → B) where
   pub map-same : (g : A → B) {l : List A} → All (λ x. g x ≡ f x) l → map g l ≡ map f l
   map-same g nil = refl
   map-same g (cons e h) = rw (e, map-same g h)
-
--- a fact of every element of a mapped list
-pub all-unmap : {A B : Type 0} (f : A → B) (P : B → Type 0) (l : List A) → All P (map f l) → All (λ x. P (f x)) l
-all-unmap f P [] h = nil
-all-unmap f P (x ∷ xs) h = cons (all-head h) (all-unmap f P xs (all-tail h))
 
 -- ---- what is counted stands there
 -- each element's key is counted

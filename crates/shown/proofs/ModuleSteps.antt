@@ -23,11 +23,6 @@ use Rattle.shown.proofs.Carried.{state-eq, tags-above, tags-replaced, m
 use Rattle.shown.proofs.Expansion.{stands-tags}
 
 module _ (x : Network) (v : View) (words : ℕ → ℕ) where
-  -- ---- nothing to take
-  pub module-rests : Fits x (v .fixed) → (p : ℕ) → v .requests (x .k) p ≡ [] → shown x v words ≡ moduleStep (setup x) p (shown x v words)
-  unfolding shown moduleStep serveOldest
-  module-rests F p is = rw (tags-above x v (x .k) p (F .ranges .k-least) ∙ is)
-
   -- "Nothing happens if the reply queue is full"
   pub module-full : (p : ℕ) → x .Q ≤ length (v .replies (x .k) p) → shown x v words ≡ moduleStep (setup x) p (shown x v words)
   unfolding shown moduleStep serveOldest

@@ -1,11 +1,11 @@
 -- Moves of the view, one after another: the events of a row, of rows and of a round.
 use Prim.Native.Nat.{ℕ, zero, suc, _+_, _-_, _<_}
 use mathlib.Core.Path.{_≡_, refl, sym, ap, _∙_}
-use mathlib.Core.List.{List, [], _∷_, _++_, append-assoc}
+use mathlib.Core.List.{List, [], _∷_, _++_}
 use native.Mathlib.Numerals.{add-one}
 use native.Mathlib.Omega.{arith}
 use Rattle.event.specs.Event.{Event}
-use Rattle.machine.specs.Run.{runEvents, row, rowsUp, rowsDown, round}
+use Rattle.machine.specs.Run.{runEvents, row, rowsUp, rowsDown}
 use Rattle.machine.proofs.Moments.{events-append}
 use Rattle.view.specs.View.{View}
 use Rattle.shown.specs.Network.{Network, setup}
@@ -54,10 +54,3 @@ module _ {x : Network} where
     unfolding rowsDown
     down-onward zero N h f g = absurd (omega arith)
     down-onward (suc n) N h f g = moved-append f (let z : suc n - 1 ≡ n = omega arith in rw z at g)
-
-  module _ {v v₁ v₂ : View} {words words₁ words₂ : ℕ → ℕ} where
-    -- "collects; returns at levels 1 to k; modules; forwards at levels k-1 down to 1; issues", in two halves
-    pub round-moves : (k N n : ℕ) → n ≡ N → Moved x (row 4 0 n ++ rowsUp 3 k n ++ row 2 k n) v words v₁ words₁ → Moved x (rowsDown 1 (k - 1) n ++ row 0 0 n) v₁ words₁ v₂ words₂
-        → Moved x (round k N) v words v₂ words₂
-    unfolding round
-    round-moves k N n e a b = rw (← e, append-assoc (row 4 0 n ++ rowsUp 3 k n ++ row 2 k n) (rowsDown 1 (k - 1) n) (row 0 0 n)) (moved-append a b)

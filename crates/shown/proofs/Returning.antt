@@ -35,10 +35,6 @@ taken-pair t pairs {older} {r} {younger} is =
     let f : First (λ (r : Pair). eqb (r .first) t) pairs (found older r younger) = rw is at (firstOf-is (λ (r : Pair). eqb (r .first) t) pairs) in f .0
 
 module _ (x : Network) (v : View) (words : ℕ → ℕ) where
-  pub return-rests : (s p : ℕ) → v .replies (suc s) p ≡ [] → shown x v words ≡ returnStep (setup x) s p (shown x v words)
-  unfolding shown returnStep returnOldest
-  return-rests s p is = rw is
-
   module _ (F : Fits x (v .fixed)) (S : Sound (setup x) (shown x v words)) (s p t : ℕ) (rest : List ℕ) (up : suc s ≤ x .k) (is : v .replies (suc s) p ≡ t ∷ rest) where
     A : Apart x v
     A = tags-apart x v words (S .onePlace)

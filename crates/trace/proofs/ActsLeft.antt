@@ -10,7 +10,7 @@ use lib.Seq.{drop-drop, drop-at, drop-length, drop-append-le, getD-drop}
 use Rattle.lists.specs.Search.{All, nil, cons}
 use Rattle.event.specs.Event.{Act}
 use Rattle.trace.specs.Bytes.{AreBytes, number, bodySize}
-use Rattle.trace.specs.Item.{Item, shape, word, request, event, drain, kindOf, Items, none, after, size, recordSize, Records, done, next, records, recordsUpTo}
+use Rattle.trace.specs.Item.{Item, shape, word, request, event, drain, kindOf, Items, none, after, size, recordSize}
 use Rattle.trace.specs.Contents.{contents, add, actsOf, sectionOf, section, lastSection, actsAt}
 use Rattle.trace.specs.Refusals.{fault}
 use Rattle.trace.specs.Check.{accepted, check, Valid, valid-after}
@@ -20,7 +20,7 @@ use Rattle.trace.specs.Acts.{itemOf, actSize, ActFits, actsSize, actOffs
 use Rattle.trace.specs.declared.acts.Due.the-variants.{End, Event as EventDue, Drain}
 use Rattle.trace.proofs.Tests.{clash}
 use Rattle.trace.proofs.Numbers.{number-drop, number-bytes}
-use Rattle.trace.proofs.Written.{length-record, records-written}
+use Rattle.trace.proofs.Written.{length-record}
 use Rattle.trace.proofs.Accept.{accepted-is, length-trace}
 use Rattle.trace.proofs.Ranges.{in-order, follow-low, accepted-in-range}
 
@@ -184,35 +184,3 @@ module _ (s : List ℕ) (at : ℕ) where
     where
       first : {m : ℕ} {r : List Act} → All ActFits (Act.drain m ∷ r) → m < 65536
       first (cons f fs) = f
-
--- at an offset one list of acts is left
-same-act : (a b : Act) → itemOf a ≡ itemOf b → a ≡ b
-same-act (Act.event e) (Act.event e′) h = let same : e ≡ e′ = cc in cc
-same-act (Act.event e) (Act.drain n) h = clash (cc)
-same-act (Act.drain n) (Act.event e) h = clash (cc)
-same-act (Act.drain n) (Act.drain n′) h = let same : n ≡ n′ = cc in cc
-
-first-act : {s : List ℕ} {at : ℕ} {a : Act} {rest : List Act} → Left s at (a ∷ rest) → records (drop at s) ≡ next (itemOf a) (records (actsWritten rest))
-unfolding actsWritten
-first-act {s} {at} {a} {rest} l = ap records (l .bytes-are) ∙ records-written (itemOf a) (first (l .fit)) (actsWritten rest)
-  where
-    first : {b : Act} {bs : List Act} → All ActFits (b ∷ bs) → ActFits b
-    first (cons f fs) = f
-
-pub left-same : (s : List ℕ) (at : ℕ) (l m : List Act) → Left s at l → Left s at m → l ≡ m
-unfolding actsWritten records recordsUpTo
-left-same s at [] [] x y = refl
-left-same s at [] (b ∷ m) x y = clash (none-next (sym (ap records (x .bytes-are)) ∙ first-act y))
-  where
-    none-next : {z : Item} {r : Records} → done ≡ next z r → _≡_ {A = ℕ} 0 1
-    none-next h = cc
-left-same s at (a ∷ l) [] x y = clash (none-next (sym (ap records (y .bytes-are)) ∙ first-act x))
-  where
-    none-next : {z : Item} {r : Records} → done ≡ next z r → _≡_ {A = ℕ} 0 1
-    none-next h = cc
-left-same s at (a ∷ l) (b ∷ m) x y =
-    let same : a ≡ b = same-act a b (item-same (sym (first-act x) ∙ first-act y)) in
-    rw same (ap (λ (r : List Act). b ∷ r) (left-same s (at + actSize b) l m (rw same at (left-next x)) (left-next y)))
-  where
-    item-same : {p q : Item} {u v : Records} → next p u ≡ next q v → p ≡ q
-    item-same h = cc

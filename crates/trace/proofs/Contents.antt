@@ -1,9 +1,9 @@
 -- One more word in the memory.
 use Prim.Native.Nat.{ℕ}
-use mathlib.Core.Path.{_≡_, refl, _∙_}
+use mathlib.Core.Path.{_≡_, refl}
 use mathlib.Core.Bool.{Bool, true, false}
 use mathlib.Core.List.{List, [], _∷_, _++_}
-use lib.ListN.{length, set, replicate, length-set, length-replicate}
+use lib.ListN.{set, replicate}
 use lib.Dec.{eqb}
 use Rattle.lists.specs.Choice.{choose}
 use Rattle.trace.specs.Item.{Word}
@@ -28,12 +28,3 @@ put-words-more memory (v ∷ ws) w = put-words-more (set memory (v .address) (v 
 pub start-words-more : (ws : List Word) (w : Word) → startWords (ws ++ (w ∷ [])) ≡ set (startWords ws) (w .address) (w .value)
 unfolding startWords
 start-words-more ws w = put-words-more (replicate 256 0) ws w
-
-put-words-long : (memory : List ℕ) (ws : List Word) → length (putWords memory ws) ≡ length memory
-unfolding putWords
-put-words-long memory [] = refl
-put-words-long memory (w ∷ ws) = put-words-long (set memory (w .address) (w .value)) ws ∙ length-set memory (w .address) (w .value)
-
-pub start-words-long : (ws : List Word) → length (startWords ws) ≡ 256
-unfolding startWords
-start-words-long ws = put-words-long (replicate 256 0) ws ∙ length-replicate {A = ℕ} 256 0
