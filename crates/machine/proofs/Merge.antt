@@ -23,7 +23,8 @@ use Rattle.machine.proofs.Tree.{Tree, inOrder, treeOf, tree-join, tree-
 use Rattle.machine.proofs.Served.{runOn-append}
 use Rattle.machine.proofs.Members.{Link, near}
 use Rattle.machine.proofs.Moves.{withMerged}
-use Rattle.machine.proofs.Invariant.{Invariant, Requested, Replying, Waiting, segment, kept, kept-append, kept-none, kept-far, kept-off, above-update, waiting-relabel, links, collected-relabel, far-waits, far-replies, other-requests}
+use Rattle.machine.proofs.Invariant.{Invariant, Requested, Replying, Waiting, segment, kept, kept-append, kept-none, kept-far, kept-off, links}
+use Rattle.machine.proofs.Invariant.{above-update, waiting-relabel, collected-relabel, far-waits, far-replies, other-requests}
 use Rattle.machine.proofs.Forward.{oldest, oldest-rest, oldest-requests, oldest-waits, oldest-replies, same-tree}
 
 module _ (S : Setup) (law : Lawful S) (words : ℕ → S .Word) (places : ℕ → ℕ) (st : State S) (I : Invariant S words places st)
@@ -121,21 +122,34 @@ module _ (S : Setup) (law : Lawful S) (words : ℕ → S .Word) (places : ℕ �
       rw (none, append-nil))
       (λ (n : a ≢ addressOf (m .tag)). rw (kept-off S law (st .waits) linked e a s (m .tag) n, append-nil))
 
+  -- the queues once m has left its own, and what stands before and behind f is listed as it was
+  abbrev left-behind : ℕ → ℕ → List (Message S)
+  left-behind = update2 (st .requests) s p rest
+
+  older-same : concat (λ (y : Message S). inOrder S (treeOf S (after .waits) (suc s) (y .tag))) older ≡ concat (λ (y : Message S). inOrder S (treeOf S (st .waits) (suc s) (y .tag))) older
+  older-same = concat-elsewhere (suc s) (all-left older younger into-others)
+
+  younger-same : concat (λ (y : Message S). inOrder S (treeOf S (after .waits) (suc s) (y .tag))) younger ≡ concat (λ (y : Message S). inOrder S (treeOf S (st .waits) (suc s) (y .tag))) younger
+  younger-same = concat-elsewhere (suc s) (all-right older into-others)
+
   merge-line : (e a : ℕ) → stack (segment S after e a) k ≡ stack (segment S st e a) k
   merge-line e a =
       let a₁ : s ≢ suc s = omega arith in
       let a₂ : suc s ≢ s = omega arith in
       stack-onward (segment S st e a) (segment S after e a) s (kept S e a (inOrder S (treeOf S (st .waits) s (m .tag))))
-      (λ i n n′. rw (update2-level (update2 (st .requests) s p rest), update2-level (st .requests)) (ap (kept S e a) (concat-elsewhere i (into-requests i (position e a i) (λ z. n′ (z .0))))))
+      (λ i n n′. rw (update2-level left-behind, update2-level (st .requests)) (ap (kept S e a) (concat-elsewhere i (into-requests i (position e a i) (λ z. n′ (z .0))))))
       (by-cases (ℕ-discrete (position e a s) p)
-      (λ (z : position e a s ≡ p). rw (update2-level (update2 (st .requests) s p rest), z, update2-same (st .requests), concat-elsewhere s into-rest, is, kept-append S))
-      (λ (n : position e a s ≢ p). rw (kept-far S law (st .waits) linked e a s (m .tag) (λ z. n (z ∙ front .1 .0)), update2-level (update2 (st .requests) s p rest), update2-position (st .requests))
+      (λ (z : position e a s ≡ p). rw (update2-level left-behind, z, update2-same (st .requests), concat-elsewhere s into-rest, is, kept-append S))
+      (λ (n : position e a s ≢ p).
+      rw (kept-far S law (st .waits) linked e a s (m .tag) (λ z. n (z ∙ front .1 .0)), update2-level left-behind, update2-position (st .requests))
       (ap (kept S e a) (sym (concat-elsewhere s (into-requests s (position e a s) (λ z. a₁ (z .0))))))))
       (by-cases (ℕ-discrete (position e a (suc s)) p′)
-      (λ (z : position e a (suc s) ≡ p′). rw (z, update2-same (update2 (st .requests) s p rest), parts, concat-append, concat-append, concat-elsewhere (suc s) (all-left older younger into-others), concat-elsewhere (suc s) (all-right older into-others), tree-joined)
+      (λ (z : position e a (suc s) ≡ p′).
+      rw (z, update2-same left-behind, parts, concat-append, concat-append, older-same, younger-same, tree-joined)
       (simp (kept-append S, append-assoc) (rw (passes e a))))
       (λ (n : position e a (suc s) ≢ p′).
-      rw (← same-tree S words places st I s p m rest is, kept-far S law (st .waits) linked e a (suc s) (m .tag) n, update2-position (update2 (st .requests) s p rest), update2-level (st .requests), append-nil)
+      let far = kept-far S law (st .waits) linked e a (suc s) (m .tag) n in
+      rw (← same-tree S words places st I s p m rest is, far, update2-position left-behind, update2-level (st .requests), append-nil)
       (ap (kept S e a) (concat-elsewhere (suc s) (into-requests (suc s) (position e a (suc s)) (λ z. n (z .1)))))))
       k lt
 

@@ -98,9 +98,13 @@ module _ (S : Setup) (words : ℕ → S .Word) (places : ℕ → ℕ) (st : Stat
     lone j q n =
         all-map (λ y h e. let i : j ≡ suc s = omega (arith, h .0, second .0, ap places e) in n (i, sym (h .1 .0 .1) ∙ ap₂ (place S) e i ∙ second .1 .0 .1)) (I .waiting j q)
 
+    -- the first tag stands in no request queue
+    not-requested : (i q : ℕ) → All (λ (y : Message S). y .tag ≢ r .first) (st .requests i q)
+    not-requested i q = far-requests S words places st I (r .first) (4 * suc s + 2) first i q (omega arith)
+
     answer-line : (e a : ℕ) → stack (segment S (split S st s p t (older ++ younger) r (place S (r .second) s)) e a) k ≡ stack (segment S st e a) k
     answer-line e a = stack-same (segment S st e a) (segment S (split S st s p t (older ++ younger) r (place S (r .second) s)) e a) k
-        (λ i l. ap (kept S e a) (concat-eq _ _ (all-map (λ y n. ap (inOrder S) (tree-elsewhere i (y .tag) n)) (far-requests S words places st I (r .first) (4 * suc s + 2) first i (position e a i) (omega arith)))))
+        (λ i l. ap (kept S e a) (concat-eq _ _ (all-map (λ y n. ap (inOrder S) (tree-elsewhere i (y .tag) n)) (not-requested i (position e a i)))))
 
     pub answer-keeps : Invariant S words (update places (r .second) (4 * s + 2)) (split S st s p t (older ++ younger) r (place S (r .second) s))
     answer-keeps = record {
@@ -147,7 +151,9 @@ module _ (S : Setup) (words : ℕ → S .Word) (places : ℕ → ℕ) (st : Stat
       requestedOnce = I .requestedOnce;
       waiting = λ j q. by-cases (ℕ-discrete j (suc s))
           (λ (e : j ≡ suc s). all-map2 (still-waiting j q) (I .waiting j q) (rw e (no-first q)))
-          (λ (n : j ≢ suc s). waiting-relabel S places (t .tag) (4 * s + 2) j q (λ h. omega (arith, h, above .0)) (I .waiting j q) (far-waits S words places st I (t .tag) (4 * suc s + 2) (above .0) j q (omega arith)));
+          (λ (n : j ≢ suc s).
+          waiting-relabel S places (t .tag) (4 * s + 2) j q (λ h. omega (arith, h, above .0)) (I .waiting j q)
+          (far-waits S words places st I (t .tag) (4 * suc s + 2) (above .0) j q (omega arith)));
       waitingOnce = I .waitingOnce;
       replying = update2-ind _ _ _ _ (λ j q l. All (λ (y : Reply S). (update places (t .tag) (4 * s + 2) (y .tag) ≡ 4 * j + 2) × Replying S (st .waits) (reads S (st .order) words) j q y) l)
           (all-append (relabel (replyTag S) places (t .tag) (4 * s + 2) (4 * s + 2) (I .replying s _) (reply-replies (suc s) p t rest is s _ (omega arith)))
@@ -172,7 +178,8 @@ module _ (S : Setup) (words : ℕ → S .Word) (places : ℕ → ℕ) (st : Stat
     unfolding treeOf
     read = here .1 .1
 
-    collected-after : (u : ℕ) (v : Word) → update (st .answers) (t .tag) (some (t .value)) u ≡ some v → (update places (t .tag) 3 u ≡ 3) × List·Memᴰ (record { tag = u; value = v }) (reads S (st .order) words)
+    collected-after : (u : ℕ) (v : Word) → update (st .answers) (t .tag) (some (t .value)) u ≡ some v →
+        (update places (t .tag) 3 u ≡ 3) × List·Memᴰ (record { tag = u; value = v }) (reads S (st .order) words)
     collected-after u v h = by-cases (ℕ-discrete u (t .tag))
         (λ (z : u ≡ t .tag). let w : some (t .value) ≡ some v = sym (update-same (st .answers) (t .tag) (some (t .value))) ∙ ap (update (st .answers) (t .tag) (some (t .value))) (sym z) ∙ h in
         let x : t .value ≡ v = cc in (rw (z, update-same), rw (z, ← x) read))

@@ -65,6 +65,22 @@ pub split-at : (s : List ℕ) (at : ℕ) →
 unfolding split
 split-at s at = simp (length-drop, number-drop, drop-drop, add-zero)
 
+-- the numbers of a header that stands at an offset, and the size of its kind
+pub record Header (s : List ℕ) (at len kind size : ℕ) : Type 0 where
+  pub some : 4 ≤ length s - at
+  pub len-is : len ≡ number 2 s at
+  pub kind-is : kind ≡ number 2 s (at + 2)
+  pub size-is : size ≡ bodySize kind
+
+-- what stands behind it
+pub header-split : {s : List ℕ} {at len kind size : ℕ} → Header s at len kind size →
+    split (drop at s) ≡
+    choose (eqb size 0) (faulty 2)
+    (choose (not (eqb len size)) (faulty 3)
+    (choose (ltb (length s - at - 4) len) (faulty 1) (whole kind (take len (drop (at + 4) s)))))
+header-split {s} {at} h =
+    simp (split-at, ne-eqb (length s - at) 0 (λ e. omega (arith, h .some)), le-ltb _ _ (h .some), ← (h .len-is), ← (h .kind-is), ← (h .size-is))
+
 -- `cut` looks at the rest only behind a header
 cut-same : (t : Split) (f g : List ℕ → Records) (s : List ℕ) → ((n : ℕ) → f (drop (4 + n) s) ≡ g (drop (4 + n) s)) → cut t f s ≡ cut t g s
 unfolding cut
