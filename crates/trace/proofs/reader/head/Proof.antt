@@ -1,5 +1,6 @@
--- `head`: a walk of its MIR, by hand. The struct is taken apart, and `head_at` is called on the slice and the number. All that the proof knows of `head_at` is that it meets its contract.
--- The struct is Copy: what it owns is had twice, one copy is kept whole for the exit, and of the other what src owns goes to the callee, beside the lifetime's token, which comes back.
+-- `head`: a walk of its MIR, by hand. The struct is taken apart, and `head_at` is called on the slice and the number. All that the proof
+-- knows of `head_at` is that it meets its contract. The struct is Copy: what it owns is had twice, one copy is kept whole for the exit, and
+-- of the other what src owns goes to the callee, beside the lifetime's token, which comes back.
 use mathlib.Core.Path.{_≡_, refl}
 use Prim.Native.Nat.{_<_, _^_}
 use mathlib.Core.List.{[], _∷_}
@@ -69,7 +70,8 @@ module _ {M : Type 1} (𝓤 : URA M) (H : Heap 𝓤) (A : Atoms 𝓤) (mem : Mem
   abbrev HeadAt : Contract 𝓤
   HeadAt = tripleOf 𝓤 H A head-at.signature (head-at.spec 𝓤 H A mem run)
 
-module _ {M : Type 1} (𝓤 : URA M) (H : Heap 𝓤) (A : Atoms 𝓤) (W : Given 𝓤 H A) (mem : Memory → SProp 𝓤) (run : Routine → Fun 𝓤) (κ : Lft) (q : Share) (d : Reader) (inside : Inside d) where
+module _ {M : Type 1} (𝓤 : URA M) (H : Heap 𝓤) (A : Atoms 𝓤) (W : Given 𝓤 H A) (mem : Memory → SProp 𝓤) (run : Routine → Fun 𝓤)
+    (κ : Lft) (q : Share) (d : Reader) (inside : Inside d) where
   abbrev mach : Val
   mach = T′.lowered d
 
@@ -97,21 +99,26 @@ module _ {M : Type 1} (𝓤 : URA M) (H : Heap 𝓤) (A : Atoms 𝓤) (W : Given
   apart : d .at < 2 ^ 64 → ent 𝓤 Entry (sep 𝓤 (HeadAt 𝓤 H A mem run .pre to) (sem 𝓤 H A Own))
   apart fits =
       qed W ((‵ (flft κ q) ⊛ ‵ ftrue) ∷ ‵ (owns (ReaderOf (κ, tt) ∷ []) (d, tt) (mach ∷ [], tt)) ∷ []) ∵
-      move ! (1 ∷ []) $ fsplit ! $ move ! (1 ∷ []) $ drop ! $ use1 W (‵ Own ⊛ ‵ Own) (LL.copy (D κ) (T′.the-copy (namedLft 1 0 tt (κ, tt))) 𝓤 H A W .twice d (mach ∷ [])) $ split ! $
-      use1 W (given (mach ∷ [] ≡ mach ∷ []) (‵ (all-own (D κ .parts) (L κ) vd))) (own-open 𝓤 H A W (D κ) (L κ) vd mach) $ learn ! (λ _. use1 W (‵ (ownAt (D κ .parts) (L κ) 0 (d .src)) ⊛ ‵ (rest (D κ .parts) (L κ) 0 vd)) (own-out 𝓤 H A W (D κ .parts) (L κ) 0 vd) $ split ! $
+      move ! (1 ∷ []) $ fsplit ! $ move ! (1 ∷ []) $ drop ! $
+      use1 W (‵ Own ⊛ ‵ Own) (LL.copy (D κ) (T′.the-copy (namedLft 1 0 tt (κ, tt))) 𝓤 H A W .twice d (mach ∷ [])) $ split ! $
+      use1 W (given (mach ∷ [] ≡ mach ∷ []) (‵ (all-own (D κ .parts) (L κ) vd))) (own-open 𝓤 H A W (D κ) (L κ) vd mach) $ learn ! (λ _.
+      use1 W (‵ (ownAt (D κ .parts) (L κ) 0 (d .src)) ⊛ ‵ (rest (D κ .parts) (L κ) 0 vd)) (own-out 𝓤 H A W (D κ .parts) (L κ) 0 vd) $ split ! $
       -- [what src owns; what at owns; what the struct owns; the token]
       move ! (1 ∷ []) $ drop ! $ nothing ! $ owned ! usize (Is usize) (uint-makes 𝓤 H A W w64) (d .at) _ (refl, fits) $ fjoin ! $ move ! (1 ∷ 0 ∷ []) $ fjoin ! $
       move ! (2 ∷ 0 ∷ []) $ use2 W (raw (HeadAt 𝓤 H A mem run .pre to)) asked $ frame ! $ done !)
 
   -- of the callee's `ensured`, the clause alone: it has no `&mut`, so what is said of last values is dropped
-  said : (h : Head) → ent 𝓤 (ensured 𝓤 H A head-at.ended (head-at.clauses 𝓤 H A mem run) (κ, tt) (d .src, (d .at, tt)) tt h) (fact 𝓤 (Read d h))
+  abbrev ensures : Head → SProp 𝓤
+  ensures h = ensured 𝓤 H A head-at.ended (head-at.clauses 𝓤 H A mem run) (κ, tt) (d .src, (d .at, tt)) tt h
+
+  said : (h : Head) → ent 𝓤 (ensures h) (fact 𝓤 (Read d h))
   said h = exE 𝓤 _ (λ ws. snd∗ 𝓤 (sem 𝓤 H A (lasts head-at.ended (κ, tt) (d .src, (d .at, tt)) ws)) (fact 𝓤 (Read d h)))
 
   exits : (h : Head) (u : Val) → Read d h → ent 𝓤 (⋆ 𝓤 H A (‵ (S.the-row .own h (u ∷ [])) ∷ (‵ (flft κ q) ⊛ ‵ ftrue) ∷ ‵ Own ∷ [])) (Post u)
   exits h u e =
       qed W (‵ (S.the-row .own h (u ∷ [])) ∷ (‵ (flft κ q) ⊛ ‵ ftrue) ∷ ‵ Own ∷ []) ∵
-      suffices ! _ (ends-at 𝓤 H A head.ended stayed (head.clauses 𝓤 H A mem run) W (((κ, tt), (q, tt), tt, (d, tt), (mach ∷ [], tt)), tt) u h (tt, tt) (tt, tt)) $ says ! e $
-      move ! (1 ∷ []) $ frame ! $ nothing ! $ move ! (2 ∷ 0 ∷ []) $ fjoin ! $ frame ! $ done !
+      suffices ! _ (ends-at 𝓤 H A head.ended stayed (head.clauses 𝓤 H A mem run) W (((κ, tt), (q, tt), tt, (d, tt), (mach ∷ [], tt)), tt) u h (tt, tt) (tt, tt)) $
+      says ! e $ move ! (1 ∷ []) $ frame ! $ nothing ! $ move ! (2 ∷ 0 ∷ []) $ fjoin ! $ frame ! $ done !
 
   module _ (C : Calls 𝓤 H) (Λ : Loops 𝓤 H) (fm : FmC 𝓤 H (W .laws) C) (known : Triple 𝓤 (C #head-at) (HeadAt 𝓤 H A mem run)) where
     walk : Holds (hasTy (T′.mir (named 0)) mach) × WT mach → ent 𝓤 Entry (WpFn 𝓤 H C Λ code.function (mach ∷ []) Post)
@@ -121,8 +128,9 @@ module _ {M : Type 1} (𝓤 : URA M) (H : Heap 𝓤) (A : Atoms 𝓤) (W : Given
         assigns ! (of-opd ! (load ! (from ! (fld ! refl (stop !))) (look-in ! 4 (sub ! 0 refl (whole !))))) (from ! (stop !)) (init ! 2 refl (tt, wt .1 .0)) $
         assigns ! (of-opd ! (load ! (from ! (fld ! refl (stop !))) (look-in ! 4 (sub ! 1 refl (whole !))))) (from ! (stop !)) (init ! 0 refl (tt, wt .1 .1 .0)) $
         move ! (8 ∷ []) $ use1 W (raw (HeadAt 𝓤 H A mem run .pre to) ⊛ ‵ Own) (apart (wt .1 .1 .0 .fits)) $ split ! $
-        calls-at ! fm (HeadAt 𝓤 H A mem run) known to (and-then ! (load ! (from ! (stop !)) (look ! 4 refl)) (and-then ! (load ! (from ! (stop !)) (look ! 2 refl)) (no-more !))) (λ u.
-        use1 W (later (some (λ (h : Head). ((‵ (flft κ q) ⊛ ‵ ftrue) ⊛ ‵ (S.the-row .own h (u ∷ []))) ⊛ raw (ensured 𝓤 H A head-at.ended (head-at.clauses 𝓤 H A mem run) (κ, tt) (d .src, (d .at, tt)) tt h)))) (id⊢ 𝓤 _) $ await ! tt $ pick ! (λ h.
+        calls-at ! fm (HeadAt 𝓤 H A mem run) known to
+        (and-then ! (load ! (from ! (stop !)) (look ! 4 refl)) (and-then ! (load ! (from ! (stop !)) (look ! 2 refl)) (no-more !))) (λ u.
+        use1 W (later (some (λ (h : Head). ((‵ (flft κ q) ⊛ ‵ ftrue) ⊛ ‵ (S.the-row .own h (u ∷ []))) ⊛ raw (ensures h)))) (id⊢ 𝓤 _) $ await ! tt $ pick ! (λ h.
         split ! $ move ! (1 ∷ []) $ use1 W (raw (fact 𝓤 (Read d h))) (said h) $ heard ! (Read d h) (λ e. split ! $ move ! (1 ∷ []) $
         -- [the result; the token; what the struct owns; _3; …; _2; …; _1; …; room for _0; …]
         peeks ! S.the-row (Is S.the-row) (shows 𝓤 H A S.the-row) h (u ∷ []) (λ is.
@@ -130,13 +138,17 @@ module _ {M : Type 1} (𝓤 : URA M) (H : Heap 𝓤) (A : Atoms 𝓤) (W : Given
         returns ! (look ! 9 refl) $ forget ! 3 refl $ forget ! 5 refl $ forget ! 7 refl $ forget ! 9 refl $
         move ! (9 ∷ 10 ∷ []) $ free1 ! $ move ! (7 ∷ 8 ∷ []) $ free1 ! $ move ! (5 ∷ 6 ∷ []) $ free1 ! $ move ! (3 ∷ 4 ∷ []) $ free1 ! $ free0 ! $ by ! (exits h u e)))))))))
 
-meets : {M : Type 1} (𝓤 : URA M) (H : Heap 𝓤) (A : Atoms 𝓤) → Given 𝓤 H A → (mem : Memory → SProp 𝓤) (run : Routine → Fun 𝓤) (𝓣 : Tables 𝓤 H) → Triple 𝓤 (𝓣 .C #head-at) (HeadAt 𝓤 H A mem run)
+meets : {M : Type 1} (𝓤 : URA M) (H : Heap 𝓤) (A : Atoms 𝓤) → Given 𝓤 H A → (mem : Memory → SProp 𝓤) (run : Routine → Fun 𝓤) (𝓣 : Tables 𝓤 H)
+    → Triple 𝓤 (𝓣 .C #head-at) (HeadAt 𝓤 H A mem run)
     → Meets 𝓤 H A head.signature (WpFn 𝓤 H (𝓣 .C) (𝓣 .Λ) code.function) (head.spec 𝓤 H A mem run)
 meets 𝓤 H A W mem run 𝓣 known =
-    walk-meets 𝓤 H A head.ended stayed W (goes-none 𝓤 H A W 1 ReaderOf yes (λ κs x f. refl), tt) (head.clauses 𝓤 H A mem run) (WpFn 𝓤 H (𝓣 .C) (𝓣 .Λ) code.function) (WpFn-mono 𝓤 H (W .laws) 𝓣 code.function)
-    (walked 𝓤 H A head.ended stayed (head.clauses 𝓤 H A mem run) (WpFn 𝓤 H (𝓣 .C) (𝓣 .Λ) code.function) (λ κs. (LL.vals (D (κs .0)) (L (κs .0)), tt)) (λ κs. (LL.tells (D (κs .0)) (L (κs .0)), tt))
+    walk-meets 𝓤 H A head.ended stayed W (goes-none 𝓤 H A W 1 ReaderOf yes (λ κs x f. refl), tt) (head.clauses 𝓤 H A mem run)
+    (WpFn 𝓤 H (𝓣 .C) (𝓣 .Λ) code.function) (WpFn-mono 𝓤 H (W .laws) 𝓣 code.function)
+    (walked 𝓤 H A head.ended stayed (head.clauses 𝓤 H A mem run) (WpFn 𝓤 H (𝓣 .C) (𝓣 .Λ) code.function)
+    (λ κs. (LL.vals (D (κs .0)) (L (κs .0)), tt)) (λ κs. (LL.tells (D (κs .0)) (L (κs .0)), tt))
     (λ κs qs bounds a g are. needs 𝓤 _ _
-    (λ inside. walk 𝓤 H A W mem run (κs .0) (qs .0) (a .0) inside (𝓣 .C) (𝓣 .Λ) (fmOf 𝓤 H (W .laws) 𝓣) known (LL.lawful (D (κs .0)) (L (κs .0)) 𝓤 H A W .typed (a .0) _ (are .0) .0))))
+    (λ inside. walk 𝓤 H A W mem run (κs .0) (qs .0) (a .0) inside (𝓣 .C) (𝓣 .Λ) (fmOf 𝓤 H (W .laws) 𝓣) known
+    (LL.lawful (D (κs .0)) (L (κs .0)) 𝓤 H A W .typed (a .0) _ (are .0) .0))))
 
 pub head-spec : {M : Type 1} → stated.statement M
 unfolding code.routine tablesOf
