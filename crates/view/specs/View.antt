@@ -20,8 +20,9 @@ pub record Fixed : Type 0 where
   pub after : ℕ → ℕ
 
 -- Queues and wait buffers are by level and position, oldest first; at level 0 a request queue has the engine's next unissued request
--- alone. "A wait record holds the first tag, the second tag": a pair, whose operation is the one that the second tag carries. A request is in one place at a time, so what a message, a wait record, a reply or an answer carries stands by tag: the
--- operation's code and operands, or the value as the first of them.
+-- alone. "A wait record holds the first tag, the second tag": a pair, whose operation is the one that the second tag carries. A request is
+-- in one place at a time, so what a message, a wait record, a reply or an answer carries stands by tag: the operation's code and operands,
+-- or the value as the first of them.
 pub record View : Type 0 where
   pub fixed : Fixed
   pub carried : ℕ → Words
