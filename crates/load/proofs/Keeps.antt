@@ -13,16 +13,16 @@ use Rattle.lists.specs.Choice.{choose}
 use Rattle.lists.proofs.Tests.{by-cases}
 use Rattle.event.specs.Event.{Act}
 use Rattle.view.specs.View.{View}
-use Rattle.trace.specs.Bytes.{bodySize}
-use Rattle.trace.specs.Item.{Shape, Word, Request, shape, word, request, kindOf, recordSize, Items, size}
-use Rattle.trace.specs.Contents.{contents, add, shapeOf, wordsGiven, requestsOf, given, startWords, sectionOf, lastSection, actsAt}
+use Rattle.trace.specs.Bytes.{total}
+use Rattle.trace.specs.Item.{Shape, Word, Request, shape, word, request, act, Items}
+use Rattle.trace.specs.Table.{bodySize, partsOf, rowOf, section, recordSize, size}
+use Rattle.trace.specs.Contents.{contents, add, shapeOf, wordsGiven, requestsOf, given, startWords, lastSection, actsAt}
 use Rattle.trace.specs.Refusals.{fault}
-use Rattle.trace.specs.Acts.{itemOf, actSize}
-use Rattle.trace.specs.Known.{moved, shaped, Same}
+use Rattle.trace.specs.Known.{movedPast, shaped, asked, Same}
 use Rattle.trace.specs.declared.progress.Progress.{Progress}
 use Rattle.trace.proofs.Contents.{given-more, start-words-more}
-use Rattle.trace.proofs.Ranges.{shape-in-range, shape-first}
-use Rattle.trace.proofs.Known.{act-same, act-section, known-same}
+use Rattle.trace.proofs.Ranges.{act-section, shape-in-range, shape-first}
+use Rattle.trace.proofs.Known.{act-same, known-same}
 use Rattle.load.specs.Machine.{RequestsHeld}
 use Rattle.load.specs.Loop.{LoadedSoFar, Room, RequestPut, Keeps}
 use Rattle.load.proofs.Machine.{held-none, put-held}
@@ -47,10 +47,10 @@ unfolding contents
 first before s f h = let e = shape-first before s f in rw e (held-none (rw e at h))
 
 module _ {p : Progress} {marks words m : List ℕ} (room : Room p marks words) where
-  pub keeps-shape : (s : Shape) → Keeps (shape s) p marks words m (shaped p s) marks words m
-  unfolding recordSize kindOf bodySize size lastSection sectionOf contents add actsAt
+  pub keeps-shape : (s : Shape) → Keeps (shape s) p marks words m (shaped (movedPast p (shape s)) s) marks words m
+  unfolding recordSize partsOf total size lastSection contents add actsAt
   keeps-shape s = record {
-    at-is = refl;
+    at-is = omega arith;
     room = record {
       acts-at-low = omega arith;
       requests-low = room .requests-low;
@@ -71,10 +71,10 @@ module _ {p : Progress} {marks words m : List ℕ} (room : Room p marks words) w
     loaded = λ before known loaded f. record { words-are = loaded .words-are; sized = loaded .sized; requests-are = first before s f (loaded .requests-are) };
   }
 
-  pub keeps-word : (w : Word) → w .address < 256 → Keeps (word w) p marks words m (moved p 2 13 0 13) (set marks (w .address) 1) (set words (w .address) (w .value)) m
-  unfolding recordSize kindOf bodySize size lastSection sectionOf contents add actsAt
+  pub keeps-word : (w : Word) → w .address < 256 → Keeps (word w) p marks words m (movedPast p (word w)) (set marks (w .address) 1) (set words (w .address) (w .value)) m
+  unfolding recordSize partsOf total size lastSection contents add actsAt
   keeps-word w low = record {
-    at-is = refl;
+    at-is = omega arith;
     room = record {
       acts-at-low = omega arith;
       requests-low = omega arith;
@@ -99,10 +99,10 @@ module _ {p : Progress} {marks words m : List ℕ} (room : Room p marks words) w
     };
   }
 
-  pub keeps-request : (r : Request) → p .requests < 256 → (m′ : List ℕ) → RequestPut (p .k) r (p .requests) m m′ → Keeps (request r) p marks words m (moved p 3 23 1 23) marks words m′
-  unfolding recordSize kindOf bodySize size lastSection sectionOf contents add actsAt
+  pub keeps-request : (r : Request) → p .requests < 256 → (m′ : List ℕ) → RequestPut (p .k) r (p .requests) m m′ → Keeps (request r) p marks words m (asked (movedPast p (request r))) marks words m′
+  unfolding recordSize partsOf total size lastSection contents add actsAt
   keeps-request r few m′ put = record {
-    at-is = refl;
+    at-is = omega arith;
     room = record {
       acts-at-low = omega arith;
       requests-low = omega arith;
@@ -127,17 +127,17 @@ module _ {p : Progress} {marks words m : List ℕ} (room : Room p marks words) w
     };
   }
 
-  pub keeps-act : (a : Act) → Keeps (itemOf a) p marks words m (moved p 4 (actSize a) 0 0) marks words m
-  unfolding size lastSection
+  pub keeps-act : (a : Act) → Keeps (act a) p marks words m (movedPast p (act a)) marks words m
+  unfolding size lastSection recordSize
   keeps-act a = record {
-    at-is = refl;
+    at-is = omega arith;
     room = record {
-      acts-at-low = omega arith;
+      acts-at-low = rw (act-section a) (omega (arith, room .acts-at-low));
       requests-low = omega arith;
       marks-size = room .marks-size;
       words-size = room .words-size;
     };
     known = λ before known f.
-        known-same (act-same before a) known (ap (λ (n : ℕ). n + actSize a) (known .at-is)) (sym (act-section a)) refl refl refl (add-zero (p .requests)) (add-zero (p .«acts_at»));
+        known-same (act-same before a) known (omega (arith, known .at-is)) refl refl refl refl refl (rw (act-section a));
     loaded = λ before known loaded f. loaded-same (act-same before a) loaded;
   }

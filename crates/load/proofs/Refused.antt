@@ -2,7 +2,8 @@
 use Prim.Native.Nat.{ℕ}
 use mathlib.Core.Path.{_≡_, refl, ap, sym, _∙_}
 use mathlib.Core.List.{List}
-use Rattle.trace.specs.Item.{Items, size}
+use Rattle.trace.specs.Item.{Items}
+use Rattle.trace.specs.Table.{size}
 use Rattle.trace.specs.Check.{Verdict, refused, accepted, check}
 use Rattle.trace.specs.Answers.{numberOf, refusal, answered}
 use Rattle.trace.specs.declared.Fault.{Fault}

@@ -10,14 +10,15 @@ use borrow.Author.Tests.{ne-eqb, lt-ltb, le-ltb}
 use Rattle.lists.specs.Choice.{choose}
 use Rattle.store.proofs.Blank.{zeros-blank}
 use Rattle.store.specs.Layout.{size as machineSize}
-use Rattle.trace.specs.Bytes.{nothing, faulty, whole, split}
-use Rattle.trace.specs.Item.{item, requestIn, Items, none, after, size, records}
-use Rattle.trace.specs.Contents.{contents, wordsGiven, given, startWords, putWords, section, lastSection, actsAt}
+use Rattle.trace.specs.Item.{request, Items, none, after}
+use Rattle.trace.specs.Table.{bodySize, item, section, recordSize, size}
+use Rattle.trace.specs.Records.{nothing, faulty, whole, split, records}
+use Rattle.trace.specs.Contents.{contents, wordsGiven, given, startWords, putWords, lastSection, actsAt}
 use Rattle.trace.specs.Refusals.{fault}
 use Rattle.trace.specs.Check.{Verdict, refused, accepted, itemsOf, ended, decide, checkRecords, check}
-use Rattle.trace.specs.Answers.{numberOf, RecordFits, refusal, answered, tells}
+use Rattle.trace.specs.Answers.{numberOf, refusal, answered, tells}
 use Rattle.load.specs.Loaded.{Loaded}
-use Rattle.trace.specs.Known.{Known, RecordFault, begun}
+use Rattle.trace.specs.Known.{requestIn, Known, Bodied, RecordFault, begun}
 use Rattle.load.specs.Loop.{LoadedSoFar, Keeps, reading, Decided, Inside, TurnRight}
 use Rattle.trace.specs.declared.Fault.{Fault}
 use Rattle.trace.specs.declared.Fault.the-variants.{Long}
@@ -26,7 +27,8 @@ use Rattle.trace.specs.declared.Answer.the-variants.{Refused}
 use Rattle.trace.specs.declared.rules.Finding.the-variants.{Clean, Faulty}
 use Rattle.trace.specs.declared.progress.Progress.{Progress}
 use Rattle.load.specs.declared.turn.Turn.the-variants.{Stop, Fail, Go}
-use Rattle.trace.proofs.Records.{size-item, records-nothing, records-faulty, records-whole}
+use Rattle.trace.proofs.Table.{size-item, says-request}
+use Rattle.trace.proofs.Records.{records-nothing, records-faulty, records-whole}
 use Rattle.load.proofs.Machine.{none-held}
 use Rattle.trace.proofs.Answers.{number-range}
 use Rattle.trace.proofs.Ranges.{section-some, requests-few, engine-below}
@@ -62,32 +64,26 @@ module _ {s : List ℕ} {p : Progress} {marks words m : List ℕ} (i : Inside s 
         let r = i .so-far in
         decided-as r (check-whole (r .before) (drop (p .at) s) kind b e ∙ rw (← (found .is (r .before) (r .known))) (decide-some (numberOf f) (r .before) _ (λ e. omega (arith, e, number-range f .0))))
 
-    pub low-engine : RecordFault p marks (item kind b) Clean → kind ≡ 3 → getD b 0 0 < 2 ^ p .k
-    unfolding item
-    low-engine found k =
+    -- a request that is not refused has an engine, and room
+    pub clean-request : {section : ℕ} → Bodied kind section b → RecordFault p marks (item kind b) Clean → kind ≡ 3 → (p .requests < 256) × (getD b 0 0 < 2 ^ p .k)
+    clean-request bodied found k =
         let r = i .so-far in
-        let clean : fault (r .before) (item 3 b) ≡ 0 = rw k at (sym (found .is (r .before) (r .known))) in
-        rw (r .known .k-is) (engine-below (r .before) (requestIn b) clean)
+        let said = says-request b k (bodied .right) in
+        let clean : fault (r .before) (request (requestIn b)) ≡ 0 = rw (said .is) at (sym (found .is (r .before) (r .known))) in
+        (omega (arith, requests-few (r .before) (requestIn b) clean, r .known .requests-is), rw (r .known .k-is) (engine-below (r .before) (requestIn b) clean))
 
-    pub few-requests : RecordFault p marks (item kind b) Clean → kind ≡ 3 → p .requests < 256
-    unfolding item
-    few-requests found k =
-        let r = i .so-far in
-        let clean : fault (r .before) (item 3 b) ≡ 0 = rw k at (sym (found .is (r .before) (r .known))) in
-        omega (arith, requests-few (r .before) (requestIn b) clean, r .known .requests-is)
-
-    pub turn-go : {size : ℕ} → RecordFits (length s) (p .at) kind size → length b ≡ size → RecordFault p marks (item kind b) Clean →
+    pub turn-go : {section : ℕ} → p .at + 4 + length b ≤ length s → Bodied kind section b → RecordFault p marks (item kind b) Clean →
         (p′ : Progress) (marks′ words′ m′ : List ℕ) → Keeps (item kind b) p marks words m p′ marks′ words′ m′ →
         TurnRight s p marks′ words′ m′ (Go p′)
     unfolding decide
-    turn-go {size} fits long found p′ marks′ words′ m′ keeps =
+    turn-go inside bodied found p′ marks′ words′ m′ keeps =
         let r = i .so-far in
         let clean : fault (r .before) (item kind b) ≡ 0 = sym (found .is (r .before) (r .known)) in
-        let at-is : p′ .at ≡ p .at + (4 + length b) = omega (arith, keeps .at-is, size-item kind b (omega (arith, fits .some, fits .right)), fits .right, long) in (
+        let at-is : p′ .at ≡ p .at + (4 + length b) = omega (arith, keeps .at-is, size-item kind b (bodied .right)) in (
           omega arith,
           record {
             short = i .short;
-            at-inside = omega (arith, fits .inside);
+            at-inside = omega (arith, inside);
             room = keeps .room;
             so-far = record {
               before = after (r .before) (item kind b);

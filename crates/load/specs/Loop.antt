@@ -10,13 +10,14 @@ use Rattle.wiring.specs.Wiring.{moduleOf, PathOf}
 use Rattle.view.specs.View.{withRequest}
 use Rattle.store.specs.Layout.{size as machineSize}
 use Rattle.store.specs.Memory.{view, Becomes}
-use Rattle.trace.specs.Bytes.{bodySize}
-use Rattle.trace.specs.Item.{Request, Item, Items, after, records, recordSize}
+use Rattle.trace.specs.Item.{Request, Item, Items, after}
+use Rattle.trace.specs.Table.{recordSize}
+use Rattle.trace.specs.Records.{records}
 use Rattle.trace.specs.Contents.{shapeOf, wordsGiven, requestsOf, startWords}
 use Rattle.trace.specs.Refusals.{fault}
 use Rattle.trace.specs.Check.{Verdict, refused, ended, checkRecords, check}
 use Rattle.trace.specs.Answers.{numberOf}
-use Rattle.trace.specs.Known.{Known}
+use Rattle.trace.specs.Known.{Known, Bodied}
 use Rattle.trace.specs.declared.Fault.the-variants.{Order}
 use Rattle.trace.specs.declared.Answer.{Answer}
 use Rattle.trace.specs.declared.Answer.the-variants.{Refused, Accepted}
@@ -45,8 +46,8 @@ pub record RequestPut (k : ℕ) (r : Request) (t : ℕ) (m m′ : List ℕ) : Ty
   pub becomes : Becomes m′ (withRequest (view m) t (r .address) path (askedBy r))
 
 -- what a step past a record asks
-pub record MayNote (kind : ℕ) (b : List ℕ) (p : Progress) (marks words m : List ℕ) : Type 0 where
-  pub body-size : length b ≡ bodySize kind
+pub record MayNote (kind section : ℕ) (b : List ℕ) (p : Progress) (marks words m : List ℕ) : Type 0 where
+  pub bodied : Bodied kind section b
   pub at-low : p .at ≤ 65536
   pub k-low : p .k ≤ 4
   pub few : kind ≡ 3 → p .requests < 256

@@ -4,7 +4,8 @@ ghost use Prim.Native.Nat.{_≤_, _<_, _^_};
 ghost use lib.ListN.{length, getD, set};
 ghost use Rattle.store.specs.Layout.{size as machineSize};
 ghost use Rattle.trace.specs.Bytes.{number};
-ghost use Rattle.trace.specs.Item.{item, requestIn};
+ghost use Rattle.trace.specs.Table.{item};
+ghost use Rattle.trace.specs.Known.{requestIn};
 ghost use Rattle.load.specs.Loop.{MayNote, Keeps, RequestPut};
 use operation::Words;
 use store::Machine;
@@ -40,25 +41,26 @@ pub fn put_request(b: &[u8], k: u8, t: usize, m: &mut Machine)
 pub fn noted(
     b: &[u8],
     kind: u64,
+    section: u8,
     p: Progress,
     marks: &mut [u8; 256],
     words: &mut [u64; 256],
     m: &mut Machine,
 ) -> Progress
-    requires { ⌜ MayNote kind (now b) p (now marks) (now words) (now m) ⌝ }
+    requires { ⌜ MayNote kind section (now b) p (now marks) (now words) (now m) ⌝ }
     ensures { λ r. ⌜ Keeps (item kind (now (b .entry))) p (now (marks .entry)) (now (words .entry)) (now (m .entry)) r (now (marks .exit)) (now (words .exit)) (now (m .exit)) ⌝ }
 {
+    let next = p.past(section, b.len());
     match kind {
-        1 => p.past_shape(b),
+        1 => next.with_shape(b),
         2 => {
             put_word(b, marks, words);
-            p.past(2, 13, 0, 13)
+            next
         }
         3 => {
             put_request(b, p.k, p.requests, m);
-            p.past(3, 23, 1, 23)
+            next.with_request()
         }
-        4 => p.past(4, 7, 0, 0),
-        _ => p.past(4, 6, 0, 0),
+        _ => next,
     }
 }

@@ -40,11 +40,11 @@ pub fn one_turn(
     match found {
         Head::End => Turn::Stop,
         Head::Bad(f) => Turn::Fail(f),
-        Head::Record(kind, size) => {
+        Head::Record(kind, section, size) => {
             let b = body(s, at, size);
-            let finding = record_fault(b, kind, p, marks);
+            let finding = record_fault(b, kind, section, p, marks);
             match finding {
-                Finding::Clean => Turn::Go(noted(b, kind, p, marks, words, m)),
+                Finding::Clean => Turn::Go(noted(b, kind, section, p, marks, words, m)),
                 Finding::Faulty(f) => Turn::Fail(f),
             }
         }

@@ -1,5 +1,5 @@
 -- The acts of an accepted trace, one by one: where they begin, what stands at an offset, and the next offset.
-use Prim.Native.Nat.{ℕ, zero, suc, _+_, _-_, _≤_, _<_}
+use Prim.Native.Nat.{ℕ, zero, suc, _+_, _-_, _%_, _≤_, _<_}
 use mathlib.Core.Path.{_≡_, refl, ap, sym, _∙_}
 use mathlib.Core.Logic.{_≢_}
 use mathlib.Core.List.{List, [], _∷_, _++_, append-assoc, append-nil}
@@ -8,26 +8,26 @@ use native.Mathlib.Nat.{add-zero, add-assoc}
 use lib.ListN.{length, getD, take, drop, length-append, length-drop}
 use lib.Seq.{drop-drop, drop-at, drop-length, drop-append-le, getD-drop}
 use Rattle.lists.specs.Search.{All, nil, cons}
-use Rattle.event.specs.Event.{Act}
-use Rattle.trace.specs.Bytes.{AreBytes, number, bodySize}
-use Rattle.trace.specs.Item.{Item, shape, word, request, event, drain, kindOf, Items, none, after, size, recordSize}
-use Rattle.trace.specs.Contents.{contents, add, actsOf, sectionOf, section, lastSection, actsAt}
+use Rattle.event.specs.Event.{Event, Act}
+use Rattle.trace.specs.Bytes.{AreBytes, number, bytes, fieldBytes, total}
+use Rattle.trace.specs.Item.{Item, shape, word, request, act, Items, none, after}
+use Rattle.trace.specs.Table.{partsOf, section, recordSize, size, recordOf, traceOf, AllFitBytes, after-fit}
+use Rattle.trace.specs.Contents.{contents, add, actsOf, lastSection, actsAt}
 use Rattle.trace.specs.Refusals.{fault}
 use Rattle.trace.specs.Check.{accepted, check, Valid, valid-after}
-use Rattle.trace.specs.Write.{bytes, bodyOf, recordOf, traceOf}
-use Rattle.trace.specs.Ranges.{ActIn}
-use Rattle.trace.specs.Acts.{itemOf, actSize, ActFits, actsSize, actOffset, actsWritten, Left, due}
+use Rattle.trace.specs.Ranges.{EventBytes}
+use Rattle.trace.specs.Acts.{actSize, ActFits, actsSize, actOffset, actsWritten, Left, due}
 use Rattle.trace.specs.declared.acts.Due.the-variants.{End, Event as EventDue, Drain}
 use Rattle.trace.proofs.Tests.{clash}
 use Rattle.trace.proofs.Numbers.{number-drop, number-bytes}
 use Rattle.trace.proofs.Written.{length-record}
 use Rattle.trace.proofs.Accept.{accepted-is, length-trace}
-use Rattle.trace.proofs.Ranges.{in-order, follow-low, accepted-in-range}
+use Rattle.trace.proofs.Ranges.{all-more, act-section, event-bytes, drain-bytes, in-order, follow-low}
 
-acts-written-more : (front : List Act) (a : Act) → actsWritten (front ++ (a ∷ [])) ≡ actsWritten front ++ recordOf (itemOf a)
+acts-written-more : (front : List Act) (a : Act) → actsWritten (front ++ (a ∷ [])) ≡ actsWritten front ++ recordOf (act a)
 unfolding actsWritten
-acts-written-more [] a = append-nil (recordOf (itemOf a))
-acts-written-more (b ∷ front) a = rw (acts-written-more front a) (sym (append-assoc (recordOf (itemOf b)) (actsWritten front) (recordOf (itemOf a))))
+acts-written-more [] a = append-nil (recordOf (act a))
+acts-written-more (b ∷ front) a = rw (acts-written-more front a) (sym (append-assoc (recordOf (act b)) (actsWritten front) (recordOf (act a))))
 
 -- before an item of the first three sections stand only such
 low-before : (before : Items) (x : Item) → fault before x ≡ 0 → section x < 4 → lastSection before < 4
@@ -35,7 +35,7 @@ low-before before x f low = follow-low (lastSection before) (section x) (in-orde
 
 -- up to the first act there is none
 no-acts : (xs : Items) → Valid xs → lastSection xs < 4 → (actsAt xs ≡ size xs) × (actsOf xs ≡ [])
-unfolding actsAt size lastSection contents add sectionOf kindOf
+unfolding actsAt size lastSection contents add partsOf
 no-acts none v low = (refl, refl)
 no-acts (after before (shape s)) (valid-after v f) low =
     let i = no-acts before v (low-before before (shape s) f low) in (ap (λ (n : ℕ). n + recordSize (shape s)) (i .0), i .1)
@@ -43,8 +43,7 @@ no-acts (after before (word w)) (valid-after v f) low =
     let i = no-acts before v (low-before before (word w) f low) in (ap (λ (n : ℕ). n + recordSize (word w)) (i .0), i .1)
 no-acts (after before (request r)) (valid-after v f) low =
     let i = no-acts before v (low-before before (request r) f low) in (ap (λ (n : ℕ). n + recordSize (request r)) (i .0), i .1)
-no-acts (after before (event e)) v low = let z : ⊥ = omega arith in elim z [ ]
-no-acts (after before (drain rounds)) v low = let z : ⊥ = omega arith in elim z [ ]
+no-acts (after before (act a)) v low = let z : ⊥ = omega (arith, act-section a) in elim z [ ]
 
 -- from the first act on there is nothing else
 record Split (xs : Items) : Type 0 where
@@ -58,27 +57,29 @@ split-low xs v low =
     let at : actsAt xs ≡ length (traceOf xs) = h .0 ∙ sym (length-trace xs) in
     record { inside = omega arith; acts-are = rw (at, drop-length (traceOf xs), h .1) }
 
-split-act : (before : Items) (a : Act) → Split before → actsAt (after before (itemOf a)) ≡ actsAt before → actsOf (after before (itemOf a)) ≡ actsOf before ++ (a ∷ []) → Split (after before (itemOf a))
+split-act : (before : Items) (a : Act) → Split before → actsAt (after before (act a)) ≡ actsAt before → actsOf (after before (act a)) ≡ actsOf before ++ (a ∷ []) → Split (after before (act a))
 unfolding traceOf
 split-act before a i same more = record {
-  inside = omega (arith, i .inside, length-append (traceOf before) (recordOf (itemOf a)));
+  inside = omega (arith, i .inside, length-append (traceOf before) (recordOf (act a)));
   acts-are =
-      rw (same, more, drop-append-le (actsAt before) (traceOf before) (recordOf (itemOf a)) (i .inside), i .acts-are, acts-written-more (actsOf before) a);
+      rw (same, more, drop-append-le (actsAt before) (traceOf before) (recordOf (act a)) (i .inside), i .acts-are, acts-written-more (actsOf before) a);
 }
 
 split-acts : (xs : Items) → Valid xs → Split xs
-unfolding actsAt lastSection contents add sectionOf kindOf traceOf actsWritten
+unfolding actsAt lastSection contents add partsOf traceOf actsWritten
 split-acts none v = record { inside = omega arith; acts-are = refl }
 split-acts (after before (shape s)) v = split-low (after before (shape s)) v (omega arith)
 split-acts (after before (word w)) v = split-low (after before (word w)) v (omega arith)
 split-acts (after before (request r)) v = split-low (after before (request r)) v (omega arith)
-split-acts (after before (event e)) (valid-after v f) = split-act before (Act.event e) (split-acts before v) refl refl
-split-acts (after before (drain rounds)) (valid-after v f) = split-act before (Act.drain rounds) (split-acts before v) refl refl
+split-acts (after before (act a)) (valid-after v f) = split-act before a (split-acts before v) (rw (act-section a)) refl
 
-acts-fit : {k : ℕ} (front : List Act) → All (ActIn k) front → All ActFits front
-acts-fit [] nil = nil
-acts-fit (Act.event e ∷ front) (cons i is) = cons (i .fits) (acts-fit front is)
-acts-fit (Act.drain rounds ∷ front) (cons i is) = cons i (acts-fit front is)
+acts-fit : (xs : Items) → AllFitBytes xs → All ActFits (actsOf xs)
+unfolding contents add
+acts-fit none fit = nil
+acts-fit (after before (shape s)) (after-fit fit f) = acts-fit before fit
+acts-fit (after before (word w)) (after-fit fit f) = acts-fit before fit
+acts-fit (after before (request r)) (after-fit fit f) = acts-fit before fit
+acts-fit (after before (act a)) (after-fit fit f) = all-more (acts-fit before fit) f
 
 -- at its first act all acts of an accepted trace are left
 pub left-start : (s : List ℕ) (xs : Items) → AreBytes s → check s ≡ accepted xs → Left s (actsAt xs) (actsOf xs)
@@ -88,14 +89,14 @@ left-start s xs are e =
     record {
       inside = rw (a .bytes-are) (i .inside);
       bytes-are = rw (a .bytes-are) (i .acts-are);
-      fit = acts-fit (actsOf xs) (accepted-in-range s xs are e .acts-in);
+      fit = acts-fit xs (a .fit);
     }
 
 -- past an act the others are left
 pub left-next : {s : List ℕ} {at : ℕ} {a : Act} {rest : List Act} → Left s at (a ∷ rest) → Left s (at + actSize a) rest
 unfolding actsWritten
 left-next {s} {at} {a} {rest} l =
-    let x = itemOf a in
+    let x = act a in
     let long : length s - at ≡ recordSize x + length (actsWritten rest) =
     sym (length-drop at s) ∙ ap length (l .bytes-are) ∙ length-append (recordOf x) (actsWritten rest) ∙ ap (λ (n : ℕ). n + length (actsWritten rest)) (length-record x) in
     record {
@@ -125,7 +126,7 @@ pub record Next (s : List ℕ) (left : List Act) (a : Act) (at : ℕ) : Type 0 w
 
 pub next-event : {s : List ℕ} {at : ℕ} (left : List Act) (what level position : ℕ) → Left s at left → due left ≡ EventDue what level position →
     Next s left (Act.event (record { what = what; level = level; position = position })) (at + 7)
-unfolding recordSize kindOf bodySize
+unfolding recordSize partsOf total
 next-event [] what level position l e = clash (cc)
 next-event (Act.event e ∷ rest) what level position l h =
     let a : e .what ≡ what = cc in
@@ -135,7 +136,7 @@ next-event (Act.event e ∷ rest) what level position l h =
 next-event (Act.drain rounds ∷ rest) what level position l e = clash (cc)
 
 pub next-drain : {s : List ℕ} {at : ℕ} (left : List Act) (rounds : ℕ) → Left s at left → due left ≡ Drain rounds → Next s left (Act.drain rounds) (at + 6)
-unfolding recordSize kindOf bodySize
+unfolding recordSize partsOf total
 next-drain [] rounds l e = clash (cc)
 next-drain (Act.event e ∷ rest) rounds l h = clash (cc)
 next-drain (Act.drain n ∷ rest) rounds l h = let a : n ≡ rounds = cc in record { rest = rest; left-is = ap (λ (m : ℕ). Act.drain m ∷ rest) a; are-left = left-next l }
@@ -151,36 +152,44 @@ module _ (s : List ℕ) (at : ℕ) where
   byte-in e i = sym (getD-drop at s i 0) ∙ ap (λ (l : List ℕ). getD l i 0) e
 
   pub read-end : (left : List Act) → Left s at left → at ≡ length s → End ≡ due left
-  unfolding recordSize kindOf bodySize
+  unfolding recordSize partsOf total
   read-end [] l h = refl
   read-end (Act.event e ∷ rest) l h = let z : ⊥ = omega (arith, left-next l .inside) in elim z [ ]
   read-end (Act.drain n ∷ rest) l h = let z : ⊥ = omega (arith, left-next l .inside) in elim z [ ]
 
   pub act-room : (left : List Act) → Left s at left → at ≢ length s → at + 6 ≤ length s
-  unfolding recordSize kindOf bodySize actsWritten
+  unfolding recordSize partsOf total actsWritten
   act-room [] l h = absurd (h (omega (arith, length-drop at s, ap length (l .bytes-are), l .inside)))
   act-room (Act.event e ∷ rest) l h = omega (arith, left-next l .inside)
   act-room (Act.drain n ∷ rest) l h = omega (arith, left-next l .inside)
 
   pub event-room : (left : List Act) → Left s at left → at ≢ length s → getD s (at + 2) 0 ≡ 4 → at + 7 ≤ length s
-  unfolding recordSize kindOf bodySize actsWritten recordOf bytes bodyOf
+  unfolding recordSize partsOf total actsWritten recordOf bytes fieldBytes
   event-room [] l h k = absurd (h (omega (arith, length-drop at s, ap length (l .bytes-are), l .inside)))
   event-room (Act.event e ∷ rest) l h k = omega (arith, left-next l .inside)
   event-room (Act.drain n ∷ rest) l h k = let z : ⊥ = omega (arith, byte-in (l .bytes-are) 2, k) in elim z [ ]
 
   pub read-event : (left : List Act) → Left s at left → at ≢ length s → getD s (at + 2) 0 ≡ 4 →
       EventDue (getD s (at + 4) 0) (getD s (at + 5) 0) (getD s (at + 6) 0) ≡ due left
-  unfolding kindOf bodySize actsWritten recordOf bytes bodyOf
+  unfolding partsOf total actsWritten recordOf bytes fieldBytes
   read-event [] l h k = absurd (h (omega (arith, length-drop at s, ap length (l .bytes-are), l .inside)))
-  read-event (Act.event e ∷ rest) l h k = rw (byte-in (l .bytes-are) 4, byte-in (l .bytes-are) 5, byte-in (l .bytes-are) 6)
+  read-event (Act.event e ∷ rest) l h k =
+      let low = event-low (l .fit) in
+      let what : e .what % 256 ≡ e .what = omega (arith, low .what-low) in
+      let level : e .level % 256 ≡ e .level = omega (arith, low .level-low) in
+      let position : e .position % 256 ≡ e .position = omega (arith, low .position-low) in
+      rw (byte-in (l .bytes-are) 4, byte-in (l .bytes-are) 5, byte-in (l .bytes-are) 6, what, level, position)
+    where
+      event-low : {f : Event} {r : List Act} → All ActFits (Act.event f ∷ r) → EventBytes f
+      event-low {f} (cons fits fs) = event-bytes f fits
   read-event (Act.drain n ∷ rest) l h k = let z : ⊥ = omega (arith, byte-in (l .bytes-are) 2, k) in elim z [ ]
 
   pub read-drain : (left : List Act) → Left s at left → at ≢ length s → getD s (at + 2) 0 ≢ 4 → Drain (number 2 s (at + 4)) ≡ due left
-  unfolding kindOf bodySize actsWritten recordOf bytes bodyOf
+  unfolding partsOf total actsWritten recordOf bytes fieldBytes
   read-drain [] l h k = absurd (h (omega (arith, length-drop at s, ap length (l .bytes-are), l .inside)))
   read-drain (Act.event e ∷ rest) l h k = absurd (k (byte-in (l .bytes-are) 2))
   read-drain (Act.drain n ∷ rest) l h k =
       ap Drain (sym (number-drop 2 s at 4) ∙ ap (λ (r : List ℕ). number 2 r 4) (l .bytes-are) ∙ number-bytes 2 n (2 ∷ 0 ∷ 5 ∷ 0 ∷ []) (actsWritten rest) (first (l .fit)))
     where
       first : {m : ℕ} {r : List Act} → All ActFits (Act.drain m ∷ r) → m < 65536
-      first (cons f fs) = f
+      first {m} (cons fits fs) = drain-bytes m fits

@@ -5,22 +5,17 @@ use mathlib.Core.List.{List}
 use lib.ListN.{length}
 use Rattle.lists.specs.Choice.{choose}
 use Rattle.event.specs.Event.{Act}
-use Rattle.trace.specs.Item.{Shape, Word, kindOf, Items, after, size}
-use Rattle.trace.specs.Contents.{contents, add, given, sectionOf, section, lastSection, actsAt}
-use Rattle.trace.specs.Acts.{itemOf}
+use Rattle.trace.specs.Item.{Shape, Word, act, Items, after}
+use Rattle.trace.specs.Table.{size}
+use Rattle.trace.specs.Contents.{contents, add, given, lastSection, actsAt}
 use Rattle.trace.specs.Known.{Known, Same}
 use Rattle.trace.specs.declared.progress.Progress.{Progress}
+use Rattle.trace.proofs.Ranges.{act-section}
 
 -- items with an act behind them say what they said, but for the acts
-pub act-same : (before : Items) (a : Act) → Same before (after before (itemOf a))
-unfolding contents add actsAt sectionOf kindOf
-act-same before (Act.event e) = record { shape-is = refl; words-are = refl; requests-are = refl; acts-at-is = refl }
-act-same before (Act.drain rounds) = record { shape-is = refl; words-are = refl; requests-are = refl; acts-at-is = refl }
-
-pub act-section : (a : Act) → section (itemOf a) ≡ 4
-unfolding sectionOf kindOf
-act-section (Act.event e) = refl
-act-section (Act.drain rounds) = refl
+pub act-same : (before : Items) (a : Act) → Same before (after before (act a))
+unfolding contents add actsAt
+act-same before a = record { shape-is = refl; words-are = refl; requests-are = refl; acts-at-is = rw (act-section a) }
 
 -- so what was known is known, wherever the acts end
 pub known-same : {xs ys : Items} {p p′ : Progress} {marks : List ℕ} → Same xs ys → Known xs p marks → p′ .at ≡ size ys → p′ .section ≡ lastSection ys →

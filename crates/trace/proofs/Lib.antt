@@ -1,6 +1,8 @@
 -- Laws that several proofs cite, and those for the crates above.
 pub mod Tests
 pub mod Numbers
+pub mod Fields
+pub mod Table
 pub mod Records
 pub mod Contents
 pub mod Written
@@ -14,4 +16,3 @@ pub mod Runs
 pub mod Levels
 pub mod Answers
 pub mod Held
-pub mod Examples

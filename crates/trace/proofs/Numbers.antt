@@ -11,8 +11,7 @@ use lib.Seq.{getD-append-seam, getD-drop, getD-take, drop-cons}
 use Rattle.lists.proofs.Tests.{by-cases}
 use Rattle.words.specs.Digits.{byteIn}
 use Rattle.words.proofs.Digits.{digit-zero, digit-suc}
-use Rattle.trace.specs.Bytes.{AreBytes, number}
-use Rattle.trace.specs.Write.{bytes}
+use Rattle.trace.specs.Bytes.{AreBytes, number, bytes}
 
 pub bytes-drop : {s : List ℕ} → AreBytes s → (n : ℕ) → AreBytes (drop n s)
 bytes-drop {s} b n = record { below = λ i. rw (getD-drop n s i 0) (b .below (n + i)) }
@@ -37,6 +36,11 @@ number-join zero m s i = rw (zero-add m, add-zero i) (omega arith)
 number-join (suc n) m s i =
     let on : suc i + n ≡ i + suc n = omega arith in
     rw (suc-add n m, number-join n m s (suc i), pow-succ' 256 n, on, mul-assoc 256 (256 ^ n) (number m s (i + suc n))) (omega arith)
+
+-- a number of one byte is the byte
+pub number-one : (s : List ℕ) (i : ℕ) → number 1 s i ≡ getD s i 0
+unfolding number
+number-one s i = add-zero (getD s i 0)
 
 pub number-below : {s : List ℕ} → AreBytes s → (n i : ℕ) → number n s i < 256 ^ n
 unfolding number

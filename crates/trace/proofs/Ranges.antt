@@ -2,7 +2,7 @@
 use Prim.Native.Nat.{ℕ, _≤_, _<_, _^_}
 use mathlib.Core.Path.{_≡_, refl, sym, subst}
 use mathlib.Core.Logic.{_≢_}
-use mathlib.Core.Bool.{Bool, true, false}
+use mathlib.Core.Bool.{Bool, true, false, not}
 use mathlib.Core.List.{List, [], _∷_, _++_}
 use native.Mathlib.Omega.{arith}
 use lib.ListN.{length, length-append}
@@ -10,16 +10,17 @@ use lib.Dec.{eqb, ltb, leb}
 use borrow.Author.Tests.{eqb-true, eqb-false, leb-true, ltb-true}
 use Rattle.lists.specs.Choice.{choose, both}
 use Rattle.lists.specs.Search.{All, nil, cons}
-use Rattle.event.specs.Event.{Event, namesStep}
-use Rattle.trace.specs.Bytes.{AreBytes}
-use Rattle.trace.specs.Item.{Shape, Request, Item, shape, word, request, event, drain, kindOf, Items, none, after}
-use Rattle.trace.specs.Contents.{contents, add, shapeOf, wordsGiven, requestsOf, actsOf, sectionOf, section, lastSection}
+use Rattle.event.specs.Event.{Event, Act, event, drain, namesStep}
+use Rattle.trace.specs.Bytes.{AreBytes, field-fits}
+use Rattle.trace.specs.Item.{Shape, Word, Request, Item, shape, word, request, act, Items, none, after}
+use Rattle.trace.specs.Table.{partsOf, section, FitsBytes, AllFitBytes, after-fit}
+use Rattle.trace.specs.Contents.{contents, add, shapeOf, wordsGiven, requestsOf, actsOf, lastSection}
 use Rattle.operation.specs.Operation.{operandsFit}
 use Rattle.trace.specs.Refusals.{unless, orElse, mayFollow, shapeFits, requestFits, ownFault, fault}
 use Rattle.trace.specs.Check.{accepted, check, Valid, valid-after}
-use Rattle.trace.specs.Write.{WordBytes, RequestBytes, EventBytes, AllFitBytes, after-fit}
-use Rattle.trace.specs.Ranges.{ShapeIn, RequestIn, EventIn, ActIn, InRange}
+use Rattle.trace.specs.Ranges.{WordBytes, RequestBytes, EventBytes, ShapeIn, RequestIn, EventIn, ActIn, InRange}
 use Rattle.trace.proofs.Tests.{clash, both-true, unless-zero, or-else-zero}
+use Rattle.trace.proofs.Table.{item-right}
 use Rattle.trace.proofs.Accept.{Accepted, accepted-is}
 
 pub all-more : {A : Type 0} {P : A → Type 0} {xs : List A} {x : A} → All P xs → P x → All P (xs ++ (x ∷ []))
@@ -62,18 +63,25 @@ follow-none last h = go (eqb last 0) refl h
     go false e f = clash (cc)
 
 pub section-some : (x : Item) → section x ≢ 0
-unfolding sectionOf kindOf
-section-some (shape s) = λ e. omega arith
-section-some (word w) = λ e. omega arith
-section-some (request r) = λ e. omega arith
-section-some (event e) = λ z. omega arith
-section-some (drain rounds) = λ e. omega arith
+section-some x e = is-section (item-right x .row-right .is-row) e
+  where
+    is-section : {n : ℕ} → not (eqb n 0) ≡ true → n ≡ 0 → ⊥
+    is-section {n} h e = let z : not (eqb 0 0) ≡ true = rw e at h in clash (cc)
+
+-- an act stands in the last section
+pub act-section : (a : Act) → section (act a) ≡ 4
+unfolding partsOf
+act-section (event e) = refl
+act-section (drain rounds) = refl
+
+act-behind : (a : Act) → section (act a) ≢ 1
+act-behind a e = omega (arith, act-section a)
 
 has-shape : (before : Items) (x : Item) → fault before x ≡ 0 → section x ≢ 1 → lastSection before ≢ 0
 has-shape before x f other = follow-some (lastSection before) (section x) (in-order before x f) other
 
 pub shape-first : (before : Items) (s : Shape) → fault before (shape s) ≡ 0 → before ≡ none
-unfolding lastSection sectionOf kindOf
+unfolding lastSection partsOf
 shape-first none s h = refl
 shape-first (after before x) s h = absurd (section-some x (follow-none (section x) (in-order (after before x) (shape s) h)))
 
@@ -118,12 +126,32 @@ requests-few before r h = fitting before r h .0
 pub engine-below : (before : Items) (r : Request) → fault before (request r) ≡ 0 → r .engine < 2 ^ shapeOf before .k
 engine-below before r h = fitting before r h .1
 
+-- each field fits its bytes
+word-bytes : (w : Word) → FitsBytes (word w) → WordBytes w
+unfolding partsOf
+word-bytes w (field-fits a (field-fits v rest)) = record { address-low = a; value-low = v }
+
+request-bytes : (r : Request) → FitsBytes (request r) → RequestBytes r
+unfolding partsOf
+request-bytes r (field-fits e (field-fits o (field-fits a (field-fits f (field-fits s rest))))) =
+    record { engine-low = e; operation-low = o; address-low = a; first-low = f; second-low = s }
+
+pub event-bytes : (e : Event) → FitsBytes (act (event e)) → EventBytes e
+unfolding partsOf
+event-bytes e (field-fits w (field-fits l (field-fits p rest))) = record { what-low = w; level-low = l; position-low = p }
+
+pub drain-bytes : (rounds : ℕ) → FitsBytes (act (drain rounds)) → rounds < 65536
+unfolding partsOf
+drain-bytes rounds (field-fits low rest) = low
+
 request-in : (before : Items) (r : Request) → RequestBytes r → fault before (request r) ≡ 0 → RequestIn (shapeOf before .k) r
 request-in before r fits h = record { fits = fits; engine-below = fitting before r h .1; operands = fitting before r h .2 }
 
-event-in : (before : Items) (e : Event) → EventBytes e → fault before (event e) ≡ 0 → EventIn (shapeOf before .k) e
-unfolding ownFault
-event-in before e fits h = record { fits = fits; names = unless-zero (namesStep (shapeOf before .k) e) 7 (own-clean before (event e) h) }
+act-in : (before : Items) (a : Act) → FitsBytes (act a) → fault before (act a) ≡ 0 → ActIn (shapeOf before .k) a
+unfolding ownFault partsOf
+act-in before (event e) fits h =
+    record { fits = event-bytes e fits; names = unless-zero (namesStep (shapeOf before .k) e) 7 (own-clean before (act (event e)) h) }
+act-in before (drain rounds) fits h = drain-bytes rounds fits
 
 -- the same of items that need not have a shape yet
 record Within (xs : Items) : Type 0 where
@@ -134,7 +162,7 @@ record Within (xs : Items) : Type 0 where
   acts-in : All (ActIn (shapeOf xs .k)) (actsOf xs)
 
 within : (xs : Items) → Valid xs → AllFitBytes xs → Within xs
-unfolding contents add lastSection sectionOf kindOf
+unfolding contents add lastSection partsOf
 within none v fit = record { shaped = λ n. absurd (n refl); words-in = nil; few = omega arith; requests-in = nil; acts-in = nil }
 within (after before (shape s)) (valid-after v f) (after-fit fit fits) =
     let i = within before v fit in
@@ -150,7 +178,7 @@ within (after before (word w)) (valid-after v f) (after-fit fit fits) =
     let i = within before v fit in
     record {
       shaped = λ n. i .shaped (has-shape before (word w) f (λ e. omega arith));
-      words-in = all-more (i .words-in) fits;
+      words-in = all-more (i .words-in) (word-bytes w fits);
       few = i .few;
       requests-in = i .requests-in;
       acts-in = i .acts-in;
@@ -161,26 +189,17 @@ within (after before (request r)) (valid-after v f) (after-fit fit fits) =
       shaped = λ n. i .shaped (has-shape before (request r) f (λ e. omega arith));
       words-in = i .words-in;
       few = omega (arith, requests-few before r f, length-append (requestsOf before) (r ∷ []));
-      requests-in = all-more (i .requests-in) (request-in before r fits f);
+      requests-in = all-more (i .requests-in) (request-in before r (request-bytes r fits) f);
       acts-in = i .acts-in;
     }
-within (after before (event e)) (valid-after v f) (after-fit fit fits) =
+within (after before (act a)) (valid-after v f) (after-fit fit fits) =
     let i = within before v fit in
     record {
-      shaped = λ n. i .shaped (has-shape before (event e) f (λ z. omega arith));
+      shaped = λ n. i .shaped (has-shape before (act a) f (act-behind a));
       words-in = i .words-in;
       few = i .few;
       requests-in = i .requests-in;
-      acts-in = all-more (i .acts-in) (event-in before e fits f);
-    }
-within (after before (drain rounds)) (valid-after v f) (after-fit fit fits) =
-    let i = within before v fit in
-    record {
-      shaped = λ n. i .shaped (has-shape before (drain rounds) f (λ e. omega arith));
-      words-in = i .words-in;
-      few = i .few;
-      requests-in = i .requests-in;
-      acts-in = all-more (i .acts-in) fits;
+      acts-in = all-more (i .acts-in) (act-in before a fits f);
     }
 
 -- of every accepted trace

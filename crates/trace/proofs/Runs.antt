@@ -9,20 +9,24 @@ use lib.ListN.{length, getD, take, drop, length-drop}
 use lib.Dec.{eqb}
 use borrow.Author.Tests.{eqb-true}
 use lib.Seq.{drop-drop, getD-take, getD-drop}
-use Rattle.event.specs.Event.{Event, Act, namesStep}
-use Rattle.trace.specs.Bytes.{AreBytes, number, bodySize}
-use Rattle.trace.specs.Item.{Shape, event, drain, kindOf, item, eventIn, recordSize, Items, after, size, next, records}
-use Rattle.trace.specs.Contents.{shapeOf, sectionOf, lastSection}
+use Rattle.event.specs.Event.{Event, Act, event, drain, namesStep}
+use Rattle.trace.specs.Bytes.{AreBytes, number, fieldsIn, total}
+use Rattle.trace.specs.Item.{Shape, act, Items, after}
+use Rattle.trace.specs.Table.{Row, rows, bodySize, isRow, firstRow, bodyRow, item, partsOf, recordSize, size}
+use Rattle.trace.specs.Records.{next, records}
+use Rattle.trace.specs.Contents.{shapeOf, lastSection}
 use Rattle.trace.specs.Refusals.{fault, orElse, mayFollow, ownFault}
 use Rattle.trace.specs.Check.{decide, checkRecords}
-use Rattle.trace.specs.Acts.{itemOf, actSize}
-use Rattle.trace.specs.Known.{Same, Passed, DrainsPassed, FourDrains}
+use Rattle.trace.specs.Acts.{actSize}
+use Rattle.trace.specs.Known.{eventIn, Same, Passed, DrainsPassed, FourDrains}
 use Rattle.trace.specs.Masked.{Mask, Steps, TellsEvent}
 use Rattle.trace.proofs.Tests.{clash}
 use Rattle.trace.proofs.Numbers.{number-drop, number-join, number-below}
-use Rattle.trace.proofs.Records.{Whole, is-whole, body-long, records-whole}
+use Rattle.trace.proofs.Table.{row-told, row-sizes, says-event, says-drain}
+use Rattle.trace.proofs.Records.{Whole, is-whole, body-size, records-whole}
 use Rattle.trace.proofs.Events.{header-of, event-stands}
-use Rattle.trace.proofs.Known.{act-same, act-section}
+use Rattle.trace.proofs.Ranges.{act-section}
+use Rattle.trace.proofs.Known.{act-same}
 
 -- acts, one by one
 pub passed-start : (s : List ℕ) (k at : ℕ) → at ≤ length s → Passed s k at at
@@ -48,8 +52,8 @@ same-then a b = record {
 
 -- past an act that is not refused
 passed-act : {s : List ℕ} {k at end : ℕ} → Passed s k at end → (a : Act) → end + actSize a ≤ length s →
-    records (drop end s) ≡ next (itemOf a) (records (drop (end + actSize a) s)) →
-    ((before : Items) → lastSection before ≡ 4 → shapeOf before .k ≡ k → fault before (itemOf a) ≡ 0) → Passed s k at (end + actSize a)
+    records (drop end s) ≡ next (act a) (records (drop (end + actSize a) s)) →
+    ((before : Items) → lastSection before ≡ 4 → shapeOf before .k ≡ k → fault before (act a) ≡ 0) → Passed s k at (end + actSize a)
 unfolding size checkRecords decide lastSection
 passed-act {s} {k} {at} {end} p a inside stands sound = record {
   onward = omega (arith, p .onward);
@@ -58,7 +62,7 @@ passed-act {s} {k} {at} {end} p a inside stands sound = record {
       let r = p .run before section-is k-is in
       let none-found = sound (r .all) (r .last-is) (sym (ap (λ (s : Shape). s .k) (r .same .shape-is)) ∙ k-is) in
       record {
-        all = after (r .all) (itemOf a);
+        all = after (r .all) (act a);
         same = same-then (r .same) (act-same (r .all) a);
         last-is = act-section a;
         size-is = omega (arith, r .size-is);
@@ -67,57 +71,59 @@ passed-act {s} {k} {at} {end} p a inside stands sound = record {
 }
 
 -- a record, by the one number that its header spells
-pub header-whole : {s : List ℕ} → AreBytes s → (i kind : ℕ) → 0 < bodySize kind → bodySize kind < 65536 → number 4 s i ≡ bodySize kind + 65536 * kind →
-    i + 4 + bodySize kind ≤ length s → Whole (drop i s) kind (take (bodySize kind) (drop (i + 4) s))
-header-whole {s} are i kind some low e inside =
+pub header-whole : {s : List ℕ} → AreBytes s → (i kind len : ℕ) → isRow (bodyRow kind len) ≡ true → number 4 s i ≡ len + 65536 * kind →
+    i + 4 + len ≤ length s → Whole (drop i s) kind (take len (drop (i + 4) s))
+header-whole {s} are i kind len is e inside =
     let halves = number-join 2 2 s i in
     let first = number-below are 2 i in
+    let told = row-told kind len is in
+    let low = row-sizes _ (told .right) .size-low in
+    let long : length (take len (drop (i + 4) s)) ≡ len = body-size s i len refl inside in
     record {
-      kind-is = number-drop 2 s i 2 ∙ omega arith;
-      size-is = number-drop 2 s i 0 ∙ rw add-zero (omega arith);
-      some = some;
-      fits = simp length-drop (omega arith);
-      body-is = rw drop-drop;
+      kind-is = number-drop 2 s i 2 ∙ omega (arith, told .size-is);
+      size-is = number-drop 2 s i 0 ∙ rw (add-zero, long) (omega (arith, told .size-is));
+      right = rw long is;
+      fits = rw long (simp length-drop (omega arith));
+      body-is = rw (long, drop-drop);
     }
 
-record-stands : {s : List ℕ} → AreBytes s → (i kind : ℕ) → 0 < bodySize kind → bodySize kind < 65536 → number 4 s i ≡ bodySize kind + 65536 * kind →
-    i + 4 + bodySize kind ≤ length s →
-    records (drop i s) ≡ next (item kind (take (bodySize kind) (drop (i + 4) s))) (records (drop (i + (4 + bodySize kind)) s))
-record-stands {s} are i kind some low e inside =
-    let w = header-whole are i kind some low e inside in
-    records-whole (drop i s) kind _ (is-whole w) ∙ rw (body-long w, drop-drop)
+record-stands : {s : List ℕ} → AreBytes s → (i kind len : ℕ) → isRow (bodyRow kind len) ≡ true → number 4 s i ≡ len + 65536 * kind → i + 4 + len ≤ length s →
+    records (drop i s) ≡ next (item kind (take len (drop (i + 4) s))) (records (drop (i + (4 + len)) s))
+record-stands {s} are i kind len is e inside =
+    records-whole (drop i s) kind _ (is-whole (header-whole are i kind len is e inside)) ∙ rw (body-size s i len refl inside, drop-drop)
 
 -- a byte of a part of the trace
 body-byte : (s : List ℕ) (i n j at : ℕ) → j < n → i + j ≡ at → getD (take n (drop i s)) j 0 ≡ getD s at 0
 body-byte s i n j at low e = getD-take n (drop i s) j 0 low ∙ getD-drop i s j 0 ∙ ap (λ (m : ℕ). getD s m 0) e
 
 -- a drain is never refused, and an event that names a step is not, where acts may stand
-drain-clean : (before : Items) (rounds : ℕ) → lastSection before ≡ 4 → fault before (drain rounds) ≡ 0
-unfolding fault mayFollow orElse sectionOf kindOf ownFault
+drain-clean : (before : Items) (rounds : ℕ) → lastSection before ≡ 4 → fault before (act (drain rounds)) ≡ 0
+unfolding fault mayFollow orElse partsOf ownFault
 drain-clean before rounds h = rw h
 
-event-clean : (before : Items) (e : Event) → lastSection before ≡ 4 → namesStep (shapeOf before .k) e ≡ true → fault before (event e) ≡ 0
-unfolding fault mayFollow orElse sectionOf kindOf ownFault
+event-clean : (before : Items) (e : Event) → lastSection before ≡ 4 → namesStep (shapeOf before .k) e ≡ true → fault before (act (event e)) ≡ 0
+unfolding fault mayFollow orElse partsOf ownFault
 event-clean before e h names = rw (h, names)
 
 module _ {s : List ℕ} {k at end : ℕ} (are : AreBytes s) (p : Passed s k at end) where
   pub passed-drain : end + 6 ≤ length s → number 4 s end ≡ 327682 → Passed s k at (end + 6)
-  unfolding item bodySize recordSize kindOf
+  unfolding rows firstRow bodyRow total partsOf recordSize
   passed-drain inside header =
-      passed-act p (Act.drain (number 2 (take 2 (drop (end + 4) s)) 0)) inside
-      (record-stands are end 5 (omega arith) (omega arith) header (omega arith))
+      let body = take 2 (drop (end + 4) s) in
+      passed-act p (drain (number 2 body 0)) inside
+      (record-stands are end 5 2 refl header (omega arith) ∙ rw (says-drain body refl (rw (body-size s end 2 refl (omega arith)) refl) .is))
       (λ before section-is k-is. drain-clean before _ section-is)
 
   passed-event : end + 7 ≤ length s → number 4 s end ≡ 262147 →
       namesStep k (record { what = getD s (end + 4) 0; level = getD s (end + 5) 0; position = getD s (end + 6) 0 }) ≡ true → Passed s k at (end + 7)
-  unfolding item bodySize recordSize kindOf
+  unfolding rows firstRow bodyRow total partsOf recordSize
   passed-event inside header names =
       let body = take 3 (drop (end + 4) s) in
       let what : getD body 0 0 ≡ getD s (end + 4) 0 = body-byte s (end + 4) 3 0 (end + 4) (omega arith) (omega arith) in
       let level : getD body 1 0 ≡ getD s (end + 5) 0 = body-byte s (end + 4) 3 1 (end + 5) (omega arith) (omega arith) in
       let position : getD body 2 0 ≡ getD s (end + 6) 0 = body-byte s (end + 4) 3 2 (end + 6) (omega arith) (omega arith) in
-      passed-act p (Act.event (eventIn body)) inside
-      (record-stands are end 4 (omega arith) (omega arith) header (omega arith))
+      passed-act p (event (eventIn body)) inside
+      (record-stands are end 4 3 refl header (omega arith) ∙ rw (says-event body refl (rw (body-size s end 3 refl (omega arith)) refl) .is))
       (λ before section-is k-is. event-clean before (eventIn body) section-is (rw (k-is, what, level, position) names))
 
   -- the same of eight bytes that are read at once

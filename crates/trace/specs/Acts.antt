@@ -5,20 +5,15 @@ use mathlib.Core.Path.{_≡_}
 use lib.ListN.{length, take, drop}
 use Rattle.lists.specs.Search.{All}
 use Rattle.event.specs.Event.{Act}
-use Rattle.trace.specs.Item.{Item, event, drain, recordSize, Items}
+use Rattle.trace.specs.Item.{act, Items}
+use Rattle.trace.specs.Table.{recordSize, recordOf, FitsBytes}
 use Rattle.trace.specs.Contents.{actsOf, actsAt}
-use Rattle.trace.specs.Write.{recordOf, FitsBytes}
 use Rattle.trace.specs.declared.acts.Due.{Due}
 use Rattle.trace.specs.declared.acts.Due.the-variants.{End, Event, Drain}
 
--- an act as an item
-abbrev pub itemOf : Act → Item
-itemOf (Act.event e) = event e
-itemOf (Act.drain rounds) = drain rounds
-
 -- how many bytes an act's record has
 abbrev pub actSize : Act → ℕ
-actSize a = recordSize (itemOf a)
+actSize a = recordSize (act a)
 
 -- and how many all of them have
 unfoldable pub actsSize : List Act → ℕ
@@ -31,12 +26,12 @@ actOffset xs n = actsAt xs + actsSize (take n (actsOf xs))
 
 -- its fields fit their bytes
 abbrev pub ActFits : Act → Type 0
-ActFits a = FitsBytes (itemOf a)
+ActFits a = FitsBytes (act a)
 
 -- the records of acts, one after another
 unfoldable pub actsWritten : List Act → List ℕ
 actsWritten [] = []
-actsWritten (a ∷ rest) = recordOf (itemOf a) ++ actsWritten rest
+actsWritten (a ∷ rest) = recordOf (act a) ++ actsWritten rest
 
 -- from offset `at` on the trace s is just the records of these acts
 pub record Left (s : List ℕ) (at : ℕ) (left : List Act) : Type 0 where

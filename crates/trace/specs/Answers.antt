@@ -1,10 +1,12 @@
 -- This paper's number and values for each answer of the code.
-use Prim.Native.Nat.{ℕ, _+_, _≤_, _<_}
+use Prim.Native.Nat.{ℕ, _+_, _≤_}
 use mathlib.Core.List.{List}
 use mathlib.Core.Path.{_≡_}
+use mathlib.Core.Bool.{true}
 use lib.ListN.{length, take, drop}
-use Rattle.trace.specs.Bytes.{Split, nothing, faulty, whole, bodySize, split}
-use Rattle.trace.specs.Item.{Items, size}
+use Rattle.trace.specs.Item.{Items}
+use Rattle.trace.specs.Table.{isRow, bodyRow, size}
+use Rattle.trace.specs.Records.{Split, nothing, faulty, whole, split}
 use Rattle.trace.specs.Contents.{shapeOf, requestsOf, actsAt}
 use Rattle.trace.specs.Check.{Verdict, refused, accepted}
 use Rattle.trace.specs.declared.Fault.{Fault}
@@ -32,19 +34,19 @@ numberOf Long = 10
 abbrev pub headSays : List ℕ → ℕ → Head → Split
 headSays s at End = nothing
 headSays s at (Bad f) = faulty (numberOf f)
-headSays s at (Record kind size) = whole kind (take size (drop (at + 4) s))
+headSays s at (Record kind section size) = whole kind (take size (drop (at + 4) s))
 
--- the body that a head announces lies in a trace of n bytes, and its kind has its size
-pub record RecordFits (n at kind size : ℕ) : Type 0 where
+-- the body that a head announces lies in a trace of n bytes, and the table has a row of its kind and size, with that section
+pub record RecordFits (n at kind section size : ℕ) : Type 0 where
   pub inside : at + 4 + size ≤ n
-  pub right : size ≡ bodySize kind
-  pub some : 0 < size
+  pub right : isRow (bodyRow kind size) ≡ true
+  pub section-is : section ≡ bodyRow kind size .section
 
 -- of a head that announces one
 abbrev pub HeadFits : ℕ → ℕ → Head → Type 0
 HeadFits n at End = Unit {0}
 HeadFits n at (Bad f) = Unit {0}
-HeadFits n at (Record kind size) = RecordFits n at kind size
+HeadFits n at (Record kind section size) = RecordFits n at kind section size
 
 -- the head that is read of the trace s at offset `at`
 pub record HeadRead (s : List ℕ) (at : ℕ) (r : Head) : Type 0 where

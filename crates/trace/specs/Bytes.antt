@@ -1,10 +1,7 @@
--- Numbers in a list of bytes, and what stands where a record is due: document 01, "Trace records" and "What a trace is told".
-use Prim.Native.Nat.{ℕ, zero, suc, _+_, _*_, _-_, _<_}
-use mathlib.Core.List.{List}
-use mathlib.Core.Bool.{not}
-use lib.ListN.{length, getD, take, drop}
-use lib.Dec.{ltb, eqb}
-use Rattle.lists.specs.Choice.{choose}
+-- Numbers and fields in a list of bytes, read and written: document 01, "Trace records".
+use Prim.Native.Nat.{ℕ, zero, suc, _+_, _*_, _/_, _%_, _<_, _^_}
+use mathlib.Core.List.{List, [], _∷_, _++_}
+use lib.ListN.{getD}
 
 -- every element is a byte
 pub record AreBytes (s : List ℕ) : Type 0 where
@@ -15,27 +12,28 @@ unfoldable pub number : ℕ → List ℕ → ℕ → ℕ
 number zero s i = 0
 number (suc count) s i = getD s i 0 + 256 * number count s (suc i)
 
--- the table's column "body bytes"; 0 for a kind that it does not have
-unfoldable pub bodySize : ℕ → ℕ
-bodySize kind =
-    choose (eqb kind 1) 3
-    (choose (eqb kind 2) 9
-    (choose (eqb kind 3) 19
-    (choose (eqb kind 4) 3
-    (choose (eqb kind 5) 2 0))))
+-- and a number in `count` bytes
+unfoldable pub bytes : ℕ → ℕ → List ℕ
+bytes zero v = []
+bytes (suc count) v = v % 256 ∷ bytes count (v / 256)
 
--- what stands where a record is due: nothing; a record that is faulty in itself, by its number; or a whole one, its kind and its body
-pub data Split : Type 0 where
-  nothing : Split
-  faulty : ℕ → Split
-  whole : ℕ → List ℕ → Split
+-- fields one behind another, each of its width in bytes: the numbers that stand from place i on
+unfoldable pub fieldsIn : List ℕ → List ℕ → ℕ → List ℕ
+fieldsIn [] s i = []
+fieldsIn (width ∷ widths) s i = number width s i ∷ fieldsIn widths s (i + width)
 
--- "Each record: body length (2 bytes), kind (2 bytes), body"; "1 for the header, 2, 3, 1 for the body"
-unfoldable pub split : List ℕ → Split
-split bytes =
-    choose (eqb (length bytes) 0) nothing
-    (choose (ltb (length bytes) 4) (faulty 1)
-    (choose (eqb (bodySize (number 2 bytes 2)) 0) (faulty 2)
-    (choose (not (eqb (number 2 bytes 0) (bodySize (number 2 bytes 2)))) (faulty 3)
-    (choose (ltb (length bytes - 4) (number 2 bytes 0)) (faulty 1)
-    (whole (number 2 bytes 2) (take (number 2 bytes 0) (drop 4 bytes)))))))
+-- and such numbers in bytes
+unfoldable pub fieldBytes : List ℕ → List ℕ → List ℕ
+fieldBytes [] fields = []
+fieldBytes (width ∷ widths) [] = []
+fieldBytes (width ∷ widths) (field ∷ fields) = bytes width field ++ fieldBytes widths fields
+
+-- how many bytes they have together
+unfoldable pub total : List ℕ → ℕ
+total [] = 0
+total (width ∷ widths) = width + total widths
+
+-- there is a number for each width, and it fits its bytes
+pub data FieldsFit : List ℕ → List ℕ → Type 0 where
+  no-field : FieldsFit [] []
+  field-fits : {width field : ℕ} {widths fields : List ℕ} → field < 256 ^ width → FieldsFit widths fields → FieldsFit (width ∷ widths) (field ∷ fields)

@@ -5,7 +5,8 @@ use mathlib.Core.Path.{_≡_}
 use lib.ListN.{length}
 use lib.Dec.{ltb}
 use Rattle.lists.specs.Choice.{choose}
-use Rattle.trace.specs.Item.{Item, Items, none, after, Records, done, broken, next, records}
+use Rattle.trace.specs.Item.{Item, Items, none, after}
+use Rattle.trace.specs.Records.{Records, done, broken, next, records}
 use Rattle.trace.specs.Refusals.{fault}
 
 -- refused with a number, after the items before the faulty record; or accepted with its items

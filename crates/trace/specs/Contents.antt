@@ -6,7 +6,8 @@ use lib.ListN.{set, replicate, getD}
 use lib.Dec.{eqb, ltb}
 use Rattle.lists.specs.Choice.{choose}
 use Rattle.event.specs.Event.{Act}
-use Rattle.trace.specs.Item.{Shape, Word, Request, Item, shape, word, request, event, drain, kindOf, recordSize, Items, none, after}
+use Rattle.trace.specs.Item.{Shape, Word, Request, Item, shape, word, request, act, Items, none, after}
+use Rattle.trace.specs.Table.{section, recordSize}
 
 -- each list in the order of the trace; the shape is zeros before there is one
 pub record Contents : Type 0 where
@@ -20,8 +21,7 @@ unfoldable pub add : Contents → Item → Contents
 add c (shape s) = record { shape = s; words = c .words; requests = c .requests; acts = c .acts }
 add c (word w) = record { shape = c .shape; words = c .words ++ (w ∷ []); requests = c .requests; acts = c .acts }
 add c (request r) = record { shape = c .shape; words = c .words; requests = c .requests ++ (r ∷ []); acts = c .acts }
-add c (event e) = record { shape = c .shape; words = c .words; requests = c .requests; acts = c .acts ++ (Act.event e ∷ []) }
-add c (drain rounds) = record { shape = c .shape; words = c .words; requests = c .requests; acts = c .acts ++ (Act.drain rounds ∷ []) }
+add c (act a) = record { shape = c .shape; words = c .words; requests = c .requests; acts = c .acts ++ (a ∷ []) }
 
 -- what the items up to the last say
 unfoldable pub contents : Items → Contents
@@ -61,14 +61,6 @@ putWords memory (w ∷ ws) = putWords (set memory (w .address) (w .value)) ws
 -- "A word without a record starts at zero": 256 zeros, then each word record
 unfoldable pub startWords : List Word → List ℕ
 startWords ws = putWords (replicate 256 0) ws
-
--- "one shape; words; requests; events and drains mixed": the section of a kind
-unfoldable pub sectionOf : ℕ → ℕ
-sectionOf kind = choose (eqb kind 1) 1 (choose (eqb kind 2) 2 (choose (eqb kind 3) 3 4))
-
--- and of an item
-abbrev pub section : Item → ℕ
-section x = sectionOf (kindOf x)
 
 -- the section of the last item, 0 before the first
 unfoldable pub lastSection : Items → ℕ

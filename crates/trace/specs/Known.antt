@@ -5,9 +5,13 @@ use mathlib.Core.Path.{_≡_}
 use mathlib.Core.Bool.{Bool, true}
 use mathlib.Core.List.{List}
 use lib.ListN.{length, getD, drop}
+use lib.Dec.{ltb}
 use Rattle.lists.specs.Choice.{choose}
+use Rattle.event.specs.Event.{Event}
 use Rattle.trace.specs.Bytes.{number}
-use Rattle.trace.specs.Item.{Shape, Item, Items, size, records}
+use Rattle.trace.specs.Item.{Shape, Word, Request, Item, Items}
+use Rattle.trace.specs.Table.{bodySize, isRow, kindRow, bodyRow, rowOf, section, size}
+use Rattle.trace.specs.Records.{records}
 use Rattle.trace.specs.Contents.{contents, shapeOf, wordsGiven, requestsOf, given, lastSection, actsAt}
 use Rattle.trace.specs.Refusals.{ownFault, fault}
 use Rattle.trace.specs.Check.{checkRecords}
@@ -15,6 +19,30 @@ use Rattle.trace.specs.Answers.{numberOf}
 use Rattle.trace.specs.declared.rules.Finding.{Finding}
 use Rattle.trace.specs.declared.rules.Finding.the-variants.{Clean, Faulty}
 use Rattle.trace.specs.declared.progress.Progress.{Progress}
+use Rattle.trace.specs.declared.record.Listed.{Listed}
+use Rattle.trace.specs.declared.record.Listed.the-variants.{NoKind, NoLength, In}
+
+-- the table's column "body" by its bytes, as the code reads them
+abbrev pub shapeIn : List ℕ → Shape
+shapeIn b = record { k = getD b 0 0; q = getD b 1 0; w = getD b 2 0 }
+
+abbrev pub wordIn : List ℕ → Word
+wordIn b = record { address = getD b 0 0; value = number 8 b 1 }
+
+abbrev pub requestIn : List ℕ → Request
+requestIn b = record { engine = getD b 0 0; operation = getD b 1 0; address = getD b 2 0; first = number 8 b 3; second = number 8 b 11 }
+
+abbrev pub eventIn : List ℕ → Event
+eventIn b = record { what = getD b 0 0; level = getD b 1 0; position = getD b 2 0 }
+
+-- what the table says of a kind and a body's length
+unfoldable pub listing : ℕ → ℕ → Listed
+listing kind len = choose (isRow (kindRow kind)) (choose (isRow (bodyRow kind len)) (In (bodyRow kind len .section)) NoLength) NoKind
+
+-- a body of a kind and length that the table has
+pub record Bodied (kind section : ℕ) (b : List ℕ) : Type 0 where
+  pub right : isRow (bodyRow kind (length b)) ≡ true
+  pub section-is : section ≡ bodyRow kind (length b) .section
 
 abbrev pub findingNumber : Finding → ℕ
 findingNumber Clean = 0
@@ -42,29 +70,32 @@ pub record RecordFault (p : Progress) (marks : List ℕ) (x : Item) (r : Finding
 abbrev pub begun : Progress
 begun = record { at = 0; section = 0; k = 0; q = 0; w = 0; requests = 0; «acts_at» = 0 }
 
-abbrev pub moved : Progress → ℕ → ℕ → ℕ → ℕ → Progress
-moved p section size requests front =
+-- past a record of a section, whose body has a size; what stands before the first act grows with the first three sections
+abbrev pub moved : Progress → ℕ → ℕ → Progress
+moved p section size =
     record {
-      at = p .at + size;
+      at = p .at + 4 + size;
       section = section;
       k = p .k;
       q = p .q;
       w = p .w;
-      requests = p .requests + requests;
-      «acts_at» = p .«acts_at» + front;
+      requests = p .requests;
+      «acts_at» = choose (ltb section 4) (p .«acts_at» + 4 + size) (p .«acts_at»);
     }
 
+-- past the record of an item
+abbrev pub movedPast : Progress → Item → Progress
+movedPast p x = moved p (section x) (bodySize (rowOf x))
+
+-- with a shape
 abbrev pub shaped : Progress → Shape → Progress
 shaped p s =
-    record {
-      at = p .at + 7;
-      section = 1;
-      k = s .k;
-      q = s .q;
-      w = s .w;
-      requests = p .requests;
-      «acts_at» = p .«acts_at» + 7;
-    }
+    record { at = p .at; section = p .section; k = s .k; q = s .q; w = s .w; requests = p .requests; «acts_at» = p .«acts_at» }
+
+-- with one request more
+abbrev pub asked : Progress → Progress
+asked p =
+    record { at = p .at; section = p .section; k = p .k; q = p .q; w = p .w; requests = p .requests + 1; «acts_at» = p .«acts_at» }
 
 -- the same but for the acts
 pub record Same (xs ys : Items) : Type 0 where

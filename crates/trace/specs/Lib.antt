@@ -1,10 +1,12 @@
+-- The definitions of this crate.
 pub mod Bytes
 pub mod Item
+pub mod Table
+pub mod Records
 pub mod Contents
 pub mod Refusals
 pub mod Check
 pub mod Answers
-pub mod Write
 pub mod Ranges
 pub mod Acts
 pub mod Masked

@@ -5,10 +5,26 @@ use mathlib.Core.Bool.{true}
 use lib.ListN.{length}
 use Rattle.lists.specs.Search.{All}
 use Rattle.event.specs.Event.{Event, Act, namesStep}
-use Rattle.trace.specs.Item.{Shape, Request, Items}
+use Rattle.trace.specs.Item.{Shape, Word, Request, Items}
 use Rattle.trace.specs.Contents.{shapeOf, wordsGiven, requestsOf, actsOf}
 use Rattle.operation.specs.Operation.{operandsFit}
-use Rattle.trace.specs.Write.{WordBytes, RequestBytes, EventBytes}
+
+-- each field fits its bytes
+pub record WordBytes (w : Word) : Type 0 where
+  pub address-low : w .address < 256
+  pub value-low : w .value < 2 ^ 64
+
+pub record RequestBytes (r : Request) : Type 0 where
+  pub engine-low : r .engine < 256
+  pub operation-low : r .operation < 256
+  pub address-low : r .address < 256
+  pub first-low : r .first < 2 ^ 64
+  pub second-low : r .second < 2 ^ 64
+
+pub record EventBytes (e : Event) : Type 0 where
+  pub what-low : e .what < 256
+  pub level-low : e .level < 256
+  pub position-low : e .position < 256
 
 -- "k 1 to 4; queue room Q 1 to 4; wait room W 0 to 8"
 pub record ShapeIn (s : Shape) : Type 0 where

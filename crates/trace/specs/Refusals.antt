@@ -4,9 +4,10 @@ use mathlib.Core.Bool.{Bool, not}
 use lib.ListN.{length}
 use lib.Dec.{ltb, leb, eqb}
 use Rattle.lists.specs.Choice.{choose, both, within}
-use Rattle.event.specs.Event.{namesStep}
-use Rattle.trace.specs.Item.{Shape, Request, Item, shape, word, request, event, drain, Items}
-use Rattle.trace.specs.Contents.{Contents, contents, given, section, lastSection}
+use Rattle.event.specs.Event.{event, drain, namesStep}
+use Rattle.trace.specs.Item.{Shape, Request, Item, shape, word, request, act, Items}
+use Rattle.trace.specs.Table.{section}
+use Rattle.trace.specs.Contents.{Contents, contents, given, lastSection}
 use Rattle.operation.specs.Operation.{operandsFit}
 
 -- the number n where the test fails, 0 where it holds
@@ -35,8 +36,8 @@ unfoldable pub ownFault : Contents → Item → ℕ
 ownFault c (shape s) = unless (shapeFits s) 5
 ownFault c (word w) = unless (not (given (c .words) (w .address))) 6
 ownFault c (request r) = orElse (unless (ltb (length (c .requests)) 256) 9) (unless (requestFits (c .shape .k) r) 7)
-ownFault c (event e) = unless (namesStep (c .shape .k) e) 8
-ownFault c (drain rounds) = 0
+ownFault c (act (event e)) = unless (namesStep (c .shape .k) e) 8
+ownFault c (act (drain rounds)) = 0
 
 -- "4, then 5, 6, 9, 7, 8": the number that an item is refused with, 0 where it is not
 unfoldable pub fault : Items → Item → ℕ

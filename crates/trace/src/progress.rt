@@ -2,8 +2,7 @@
 ghost use mathlib.Core.Path.{_≡_};
 ghost use Prim.Native.Nat.{_≤_};
 ghost use lib.ListN.{length};
-ghost use Rattle.trace.specs.Item.{shapeIn};
-ghost use Rattle.trace.specs.Known.{begun, moved, shaped};
+ghost use Rattle.trace.specs.Known.{shapeIn, begun, moved, shaped, asked};
 
 pub struct Progress {
     pub at: usize,
@@ -31,28 +30,35 @@ impl Progress {
         }
     }
 
-    // Past a record of a section, with its size, and what it adds to the requests and to the bytes before the first act.
-    pub fn past(mut self, section: u8, size: usize, requests: usize, front: usize) -> Progress
-        requires { ⌜ (self .at ≤ 65536) × (self .«acts_at» ≤ 65536) × (self .requests ≤ 256) × (size ≤ 23) × (requests ≤ 1) × (front ≤ 23) ⌝ }
-        ensures { λ r. ⌜ r ≡ moved self section size requests front ⌝ }
+    // Past a record of a section, whose body has a size.
+    pub fn past(mut self, section: u8, size: usize) -> Progress
+        requires { ⌜ (self .at ≤ 65536) × (self .«acts_at» ≤ 65536) × (size ≤ 65536) ⌝ }
+        ensures { λ r. ⌜ r ≡ moved self section size ⌝ }
     {
-        self.at = self.at + size;
+        self.at = self.at + 4 + size;
         self.section = section;
-        self.requests = self.requests + requests;
-        self.acts_at = self.acts_at + front;
+        if section >= 4 {
+            return self;
+        }
+        self.acts_at = self.acts_at + 4 + size;
         self
     }
 
-    pub fn past_shape(mut self, b: &[u8]) -> Progress
-        requires { ⌜ (length (now b) ≡ 3) × (self .at ≤ 65536) × (self .«acts_at» ≤ 65536) ⌝ }
+    pub fn with_shape(mut self, b: &[u8]) -> Progress
+        requires { ⌜ length (now b) ≡ 3 ⌝ }
         ensures { λ r. ⌜ r ≡ shaped self (shapeIn (now (b .entry))) ⌝ }
     {
-        self.at = self.at + 7;
-        self.section = 1;
         self.k = b[0];
         self.q = b[1];
         self.w = b[2];
-        self.acts_at = self.acts_at + 7;
+        self
+    }
+
+    pub fn with_request(mut self) -> Progress
+        requires { ⌜ self .requests ≤ 256 ⌝ }
+        ensures { λ r. ⌜ r ≡ asked self ⌝ }
+    {
+        self.requests = self.requests + 1;
         self
     }
 }

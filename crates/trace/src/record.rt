@@ -2,28 +2,47 @@
 ghost use mathlib.Core.Path.{_≡_};
 ghost use Prim.Native.Nat.{_+_, _≤_};
 ghost use lib.ListN.{length, take, drop};
-ghost use Rattle.trace.specs.Bytes.{bodySize};
+ghost use Rattle.lists.specs.Choice.{choose};
 ghost use Rattle.trace.specs.Answers.{HeadRead};
+ghost use Rattle.trace.specs.Known.{listing};
+ghost use Rattle.trace.specs.declared.record.Listed.the-variants.{NoLength, In};
 use crate::Fault;
 use crate::bytes::number2;
 
-// What stands where a record is due: the end, a fault, or a record with its kind and the size of its body.
+// What stands where a record is due: the end, a fault, or a record with its kind, its section and the size of its body.
 pub enum Head {
     End,
     Bad(Fault),
-    Record(u64, usize),
+    Record(u64, u8, usize),
 }
 
-fn body_size(kind: u64) -> u64
-    ensures { λ r. ⌜ r ≡ bodySize kind ⌝ }
+// What the table of records says of a kind and a body's length: no such kind, no such length, or the section of the row.
+pub enum Listed {
+    NoKind,
+    NoLength,
+    In(u8),
+}
+
+fn sized(fits: bool, section: u8) -> Listed
+    ensures { λ r. ⌜ r ≡ choose fits (In section) NoLength ⌝ }
+{
+    if fits {
+        return Listed::In(section);
+    }
+    Listed::NoLength
+}
+
+// The table of records, kind and length together.
+fn row_told(kind: u64, len: u64) -> Listed
+    ensures { λ r. ⌜ r ≡ listing kind len ⌝ }
 {
     match kind {
-        1 => 3,
-        2 => 9,
-        3 => 19,
-        4 => 3,
-        5 => 2,
-        _ => 0,
+        1 => sized(len == 3, 1),
+        2 => sized(len == 9, 2),
+        3 => sized(len == 19, 3),
+        4 => sized(len == 3, 4),
+        5 => sized(len == 2, 4),
+        _ => Listed::NoKind,
     }
 }
 
@@ -41,18 +60,18 @@ pub fn head_at(s: &[u8], at: usize) -> Head
     }
     let len = number2(s, at);
     let kind = number2(s, at + 2);
-    let size = body_size(kind);
-    if size == 0 {
-        return Head::Bad(Fault::Kind);
+    let row = row_told(kind, len);
+    match row {
+        Listed::NoKind => Head::Bad(Fault::Kind),
+        Listed::NoLength => Head::Bad(Fault::Length),
+        Listed::In(section) => {
+            let size = len as usize;
+            if left - 4 < size {
+                return Head::Bad(Fault::Cut);
+            }
+            Head::Record(kind, section, size)
+        }
     }
-    if len != size {
-        return Head::Bad(Fault::Length);
-    }
-    let long = len as usize;
-    if left - 4 < long {
-        return Head::Bad(Fault::Cut);
-    }
-    Head::Record(kind, long)
 }
 
 // The body of the record at an offset.

@@ -4,11 +4,10 @@ ghost use Prim.Native.Nat.{_≤_};
 ghost use lib.ListN.{length, getD};
 ghost use lib.Dec.{ltb, eqb};
 ghost use Rattle.event.specs.Event.{namesStep, levelFits};
-ghost use Rattle.trace.specs.Bytes.{bodySize};
-ghost use Rattle.trace.specs.Item.{item, shapeIn, requestIn, eventIn};
-ghost use Rattle.trace.specs.Contents.{sectionOf};
+ghost use mathlib.Core.Bool.{true};
+ghost use Rattle.trace.specs.Table.{item, isRow, bodyRow};
 ghost use Rattle.trace.specs.Refusals.{mayFollow, shapeFits, requestFits, unless, orElse};
-ghost use Rattle.trace.specs.Known.{findingNumber, OwnFault, RecordFault};
+ghost use Rattle.trace.specs.Known.{shapeIn, requestIn, eventIn, findingNumber, OwnFault, RecordFault, Bodied};
 use crate::Fault;
 use crate::bytes::number8;
 use crate::progress::Progress;
@@ -16,17 +15,6 @@ use crate::progress::Progress;
 pub enum Finding {
     Clean,
     Faulty(Fault),
-}
-
-fn section_of(kind: u64) -> u8
-    ensures { λ r. ⌜ r ≡ sectionOf kind ⌝ }
-{
-    match kind {
-        1 => 1,
-        2 => 2,
-        3 => 3,
-        _ => 4,
-    }
 }
 
 fn may_follow(last: u8, section: u8) -> bool
@@ -136,7 +124,7 @@ fn event_fault(b: &[u8], k: u8) -> Finding
 
 // What a record is refused for in its own section: 5, 6, 9, 7, 8.
 fn own_fault(b: &[u8], kind: u64, p: Progress, marks: &[u8; 256]) -> Finding
-    requires { ⌜ (length (now b) ≡ bodySize kind) × (length (now marks) ≡ 256) × (p .k ≤ 4) ⌝ }
+    requires { ⌜ (isRow (bodyRow kind (length (now b))) ≡ true) × (length (now marks) ≡ 256) × (p .k ≤ 4) ⌝ }
     ensures { λ r. ⌜ OwnFault p (now (marks .entry)) (item kind (now (b .entry))) r ⌝ }
 {
     match kind {
@@ -149,11 +137,11 @@ fn own_fault(b: &[u8], kind: u64, p: Progress, marks: &[u8; 256]) -> Finding
 }
 
 // The same after the order of the sections: 4, then those.
-pub fn record_fault(b: &[u8], kind: u64, p: Progress, marks: &[u8; 256]) -> Finding
-    requires { ⌜ (length (now b) ≡ bodySize kind) × (length (now marks) ≡ 256) × (p .k ≤ 4) ⌝ }
+pub fn record_fault(b: &[u8], kind: u64, section: u8, p: Progress, marks: &[u8; 256]) -> Finding
+    requires { ⌜ Bodied kind section (now b) × (length (now marks) ≡ 256) × (p .k ≤ 4) ⌝ }
     ensures { λ r. ⌜ RecordFault p (now (marks .entry)) (item kind (now (b .entry))) r ⌝ }
 {
-    if may_follow(p.section, section_of(kind)) {
+    if may_follow(p.section, section) {
         return own_fault(b, kind, p, marks);
     }
     Finding::Faulty(Fault::Order)

@@ -1,78 +1,70 @@
-use mathlib.Core.Path.{_∙_, ap}
+-- `noted` meets its contract: kind by kind, what the record adds.
+use mathlib.Core.Path.{ap, _∙_}
 use native.Mathlib.Omega.{arith}
 use denote.Ref.{now}
-use borrow.Author.Tests.{ne-eqb}
-use borrow.Author.Needs.{needs}
-use Rattle.event.specs.Event.{Act}
-use Rattle.trace.specs.Item.{item, kindOf, recordSize, shapeIn, wordIn, requestIn, eventIn}
-use Rattle.trace.specs.Bytes.{bodySize, number}
+use Rattle.trace.specs.Known.{shapeIn, wordIn, requestIn}
+use Rattle.trace.specs.declared.progress.Progress.{Progress}
+use Rattle.trace.proofs.Table.{says-shape, says-word, says-request, says-act, row-told, row-sizes, moved-item}
 use Rattle.load.proofs.Keeps.{keeps-shape, keeps-word, keeps-request, keeps-act}
 use Rattle.load.proofs.put.noted.Statement.{statement}
 use Rattle.load.proofs.put.noted.Tie as tie
 
-past-shape-requires : tie.Need-past-shape-requires
-unfolding bodySize
-past-shape-requires c κs = let k = c .before .before .pre in (k .body-size ∙ ap bodySize (c .match .keys1), k .at-low, omega (arith, k .room .acts-at-low, k .at-low))
+past-requires : tie.Need-past-requires
+past-requires c κs = let k = c .before .pre in
+    let low = row-sizes _ (row-told _ _ (k .bodied .right) .right) .size-low in
+    (k .at-low, omega (arith, k .room .acts-at-low, k .at-low), omega (arith, low, row-told _ _ (k .bodied .right) .size-is))
+
+with-shape-requires : tie.Need-with-shape-requires
+with-shape-requires c κs = let d = c .before .before .before in says-shape (now (d .args .b)) (c .match .keys1) (d .pre .bodied .right) .long
 
 put-word-requires : tie.Need-put-word-requires
-unfolding bodySize
-put-word-requires c κs = let k = c .before .before .before .before .pre in (k .body-size ∙ ap bodySize (c .before .before .match .keys2), k .room .marks-size, k .room .words-size)
-
-past-requires : tie.Need-past-requires
-past-requires c κs = search needs
+put-word-requires c κs = let d = c .before .before .before .before .before in
+    (says-word (now (d .args .b)) (c .before .before .match .keys2) (d .pre .bodied .right) .long, d .pre .room .marks-size, d .pre .room .words-size)
 
 put-request-requires : tie.Need-put-request-requires
-unfolding bodySize
-put-request-requires c κs = let k = c .before .before .before .pre in let three = c .before .match .keys3 in
-    (k .body-size ∙ ap bodySize three, k .k-low, k .engine-below three, k .few three, k .sized)
+put-request-requires c κs = let d = c .before .before .before .before in let three = c .before .match .keys3 in
+    (says-request (now (d .args .b)) three (d .pre .bodied .right) .long, d .pre .k-low, d .pre .engine-below three, d .pre .few three, d .pre .sized)
 
-past-requires-2 : tie.Need-past-requires-2
-past-requires-2 c κs = search needs
-
-past-requires-3 : tie.Need-past-requires-3
-past-requires-3 c κs = search needs
-
-past-requires-4 : tie.Need-past-requires-4
-past-requires-4 c κs = search needs
+with-request-requires : tie.Need-with-request-requires
+with-request-requires c κs = let d = c .before .before .before in
+    omega (arith, ap (λ (p : Progress). p .requests) (d .past .ensures), d .before .before .pre .room .requests-low)
 
 returns : tie.Need-returns
-unfolding item
-returns c = let d = c .before .before .before in rw (c .before .match .keys1, c .past-shape .ensures) (keeps-shape (d .pre .room) (shapeIn (now (d .args .b))))
+returns c = let d = c .before .before .before .before in let b = now (d .args .b) in
+    let said = says-shape b (c .before .match .keys1) (d .pre .bodied .right) in
+    let past = c .before .before .past .ensures ∙ moved-item (d .args .p) (d .pre .bodied) (said .is) in
+    rw (said .is, c .with-shape .ensures, past) (keeps-shape (d .pre .room) (shapeIn b))
 
 returns-2 : tie.Need-returns-2
-unfolding item
-returns-2 c = let d = c .before .before .before .before .before .before in
-    rw (c .before .before .before .before .match .keys2, c .past .ensures, c .before .put-word .ensures .0, c .before .put-word .ensures .1)
-    (keeps-word (d .pre .room) (wordIn (now (d .args .b))) (omega (arith, c .before .before .before .before .before .shared-slice-known .given 0)))
+returns-2 c = let d = c .before .before .before .before .before .before in let b = now (d .args .b) in
+    let said = says-word b (c .before .before .before .match .keys2) (d .pre .bodied .right) in
+    let past = c .before .before .before .before .past .ensures ∙ moved-item (d .args .p) (d .pre .bodied) (said .is) in
+    rw (said .is, past, c .put-word .ensures .0, c .put-word .ensures .1)
+    (keeps-word (d .pre .room) (wordIn b) (omega (arith, c .before .before .before .before .before .shared-slice-known .given 0)))
 
 returns-3 : tie.Need-returns-3
-unfolding item
-returns-3 c = let d = c .before .before .before .before .before in let three = c .before .before .before .match .keys3 in
-    rw (three, c .past2 .ensures) (keeps-request (d .pre .room) (requestIn (now (d .args .b))) (d .pre .few three) _ (c .before .put-request .ensures))
+returns-3 c = let d = c .before .before .before .before .before .before in let b = now (d .args .b) in
+    let three = c .before .before .before .match .keys3 in
+    let said = says-request b three (d .pre .bodied .right) in
+    let past = c .before .before .before .before .past .ensures ∙ moved-item (d .args .p) (d .pre .bodied) (said .is) in
+    rw (said .is, c .with-request .ensures, past) (keeps-request (d .pre .room) (requestIn b) (d .pre .few three) _ (c .before .put-request .ensures))
 
 returns-4 : tie.Need-returns-4
-unfolding item kindOf recordSize bodySize
-returns-4 c = let d = c .before .before .before in
-    rw (c .before .match .keys4, c .past3 .ensures) (keeps-act (d .pre .room) (Act.event (eventIn (now (d .args .b)))))
-
-returns-5 : tie.Need-returns-5
-unfolding item kindOf recordSize bodySize
-returns-5 c = let d = c .before .before .before in let r = c .before .match .rest in
-    simp (ne-eqb _ _ (r .1), ne-eqb _ _ (r .0 .1), ne-eqb _ _ (r .0 .0 .1), ne-eqb _ _ (r .0 .0 .0 .1), c .past4 .ensures) (keeps-act (d .pre .room) (Act.drain (number 2 (now (d .args .b)) 0)))
+returns-4 c = let d = c .before .before .before in let b = now (d .args .b) in let n = c .match .rest in
+    let said = says-act b (n .0 .0 .1) (n .0 .1) (n .1) (d .pre .bodied .right) in
+    let past = c .before .past .ensures ∙ moved-item (d .args .p) (d .pre .bodied) (said .1) in
+    rw (said .1, past) (keeps-act (d .pre .room) (said .0))
 
 pub noted-spec : {M : Type 1} → statement M
 noted-spec =
     tie.close
     (tie.spec
-    past-shape-requires
-    put-word-requires
     past-requires
+    with-shape-requires
+    put-word-requires
     put-request-requires
-    past-requires-2
-    past-requires-3
-    past-requires-4
+    with-request-requires
     returns
     returns-2
     returns-3
-    returns-4
-    returns-5)
+    returns-4)

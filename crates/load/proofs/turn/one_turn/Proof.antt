@@ -1,15 +1,16 @@
-use mathlib.Core.Path.{_∙_, sym}
+use mathlib.Core.Path.{sym}
 use native.Mathlib.Omega.{arith}
 use denote.Ref.{now}
 use borrow.Author.Needs.{needs}
-use Rattle.load.proofs.Verdicts.{turn-stop, turn-bad, turn-fault, turn-go, few-requests, low-engine}
+use Rattle.load.proofs.Verdicts.{turn-stop, turn-bad, turn-fault, turn-go, clean-request}
 use Rattle.trace.proofs.Records.{Body, body-at}
 use Rattle.load.proofs.turn.one_turn.Statement.{statement}
 use Rattle.load.proofs.turn.one_turn.Tie as tie
 
 at-body : (c : tie.After-body) →
     let d = c .before .before .before .before .before .before .args in
-    Body (now (d .s)) (d .p .at) (c .before .before .found2 .given .0 .0) (c .before .before .found2 .given .0 .1 .0) (now (c .body .result))
+    let r = c .before .before .found2 .given .0 in
+    Body (now (d .s)) (d .p .at) (r .0) (r .1 .0) (r .1 .1 .0) (now (c .body .result))
 at-body c =
     let told = c .before .before .found2 .given .1 in
     let head = c .before .before .before .before .head-due .ensures in
@@ -31,7 +32,7 @@ body-requires : tie.Need-body-requires
 body-requires c κs = rw (c .before .found2 .given .1) at (c .before .before .before .head-due .ensures .fits) .inside
 
 record-fault-requires : tie.Need-record-fault-requires
-record-fault-requires c κs = let h = at-body (c .before) in let i = c .before .before .before .before .before .before .before .pre in (h .long ∙ h .fits .right, i .room .marks-size, i .so-far .known .k-low)
+record-fault-requires c κs = let h = at-body (c .before) in let i = c .before .before .before .before .before .before .before .pre in (h .bodied, i .room .marks-size, i .so-far .known .k-low)
 
 enum-told-2 : tie.Need-enum-told-2
 enum-told-2 c = search needs
@@ -41,11 +42,11 @@ noted-requires c κs = let h = at-body (c .before .before .before .before .befor
     let i = c .before .before .before .before .before .before .before .before .before .before .before .before .before .pre in
     let found = rw (c .before .before .before .enum-told2 .given .1) at (c .before .before .before .before .before .record-fault .ensures) in
     record {
-      body-size = h .long ∙ h .fits .right;
+      bodied = h .bodied;
       at-low = omega (arith, i .at-inside, i .short);
       k-low = i .so-far .known .k-low;
-      few = few-requests i (h .stands) found;
-      engine-below = low-engine i (h .stands) found;
+      few = λ three. clean-request i (h .stands) (h .bodied) found three .0;
+      engine-below = λ three. clean-request i (h .stands) (h .bodied) found three .1;
       room = i .room;
       sized = i .so-far .loaded .sized;
     }
@@ -61,7 +62,7 @@ returns-2 c = turn-bad (c .before .before .before .before .before .pre) (c .befo
 
 returns-3 : tie.Need-returns-3
 returns-3 c = let h = at-body (c .before .before .before .before .before .before .before .before) in let i = c .before .before .before .before .before .before .before .before .before .before .before .before .before .before .pre in
-    turn-go i (h .stands) (h .fits) (h .long) (rw (c .before .before .before .before .enum-told2 .given .1) at (c .before .before .before .before .before .before .record-fault .ensures)) (c .noted .result) _ _ _ (c .noted .ensures)
+    turn-go i (h .stands) (h .inside) (h .bodied) (rw (c .before .before .before .before .enum-told2 .given .1) at (c .before .before .before .before .before .before .record-fault .ensures)) (c .noted .result) _ _ _ (c .noted .ensures)
 
 returns-4 : tie.Need-returns-4
 returns-4 c = let h = at-body (c .before .before .before .before .before) in let i = c .before .before .before .before .before .before .before .before .before .before .before .pre in

@@ -5,7 +5,7 @@ use native.Mathlib.Omega.{arith}
 use lib.ListN.{length}
 use denote.Ref.{now}
 use borrow.Author.Needs.{needs}
-use Rattle.trace.specs.Item.{requestIn}
+use Rattle.trace.specs.Known.{requestIn}
 use Rattle.load.specs.Loop.{RequestsPassed}
 use Rattle.trace.proofs.Records.{body-size}
 use Rattle.trace.proofs.Ranges.{requestFault, request-right}

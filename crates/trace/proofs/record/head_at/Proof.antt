@@ -1,9 +1,9 @@
 -- `head_at` meets its contract: each way out is what stands at the offset.
-use mathlib.Core.Path.{_∙_}
+use mathlib.Core.Path.{sym, _∙_}
 use native.Mathlib.Omega.{arith}
 use borrow.Author.Tests.{lt-ltb, le-ltb, eq-eqb, ne-eqb}
 use borrow.Author.Needs.{needs}
-use Rattle.trace.proofs.Records.{Header, split-at, header-split}
+use Rattle.trace.proofs.Records.{Header, split-at, header-split, told-in}
 use Rattle.trace.proofs.record.head_at.Statement.{statement}
 use Rattle.trace.proofs.record.head_at.Tie as tie
 
@@ -25,42 +25,48 @@ add-number2 c = search needs
 number2-requires-2 : tie.Need-number2-requires-2
 number2-requires-2 c κs = search needs
 
-body-size-requires : tie.Need-body-size-requires
-body-size-requires c κs = search needs
+row-told-requires : tie.Need-row-told-requires
+row-told-requires c κs = search needs
+
+enum-told : tie.Need-enum-told
+enum-told c = search needs
+
+enum-told-2 : tie.Need-enum-told-2
+enum-told-2 c = search needs
+
+enum-known-row : tie.Need-enum-known-row
+enum-known-row c = search needs
 
 -- the header as it is read
-header : (d : tie.After-body-size) → let e = d .before .before .before .before .before .before in
-    Header (e .args .s .now) (e .args .at) (d .before .before .number2 .result) (d .before .number22 .result) (d .body-size .result)
+header : (d : tie.After-row-told) → let e = d .before .before .before .before .before .before in
+    Header (e .args .s .now) (e .args .at) (d .before .before .number2 .result) (d .before .number22 .result)
 header d = record {
   some = d .before .before .before .if2 .left;
   len-is = d .before .before .number2 .ensures .0;
   kind-is = d .before .number22 .ensures .0;
-  size-is = d .body-size .ensures;
 }
 
 returns-3 : tie.Need-returns-3
-returns-3 c = record { says = simp (header-split (header (c .before)), eq-eqb _ _ (c .if3 .taken)); fits = tt }
+returns-3 c = let d = c .before .before .before .before in
+    record { says = sym (header-split (header d) (sym (c .before .before .row .given .1) ∙ d .row-told .ensures) ∙ simp (lt-ltb _ _ (c .if3 .taken))); fits = tt }
 
 returns-4 : tie.Need-returns-4
-returns-4 c =
-    record { says = simp (header-split (header (c .before .before)), ne-eqb _ _ (c .before .if3 .left), ne-eqb _ _ (c .if4 .taken)); fits = tt }
+returns-4 c = let d = c .before .before in
+    record { says = sym (header-split (header d) (sym (c .enum-told .given .1) ∙ d .row-told .ensures)); fits = tt }
 
 returns-5 : tie.Need-returns-5
-returns-5 c = let known = c .before .before in
-    record {
-      says = simp (header-split (header (known .before)), ne-eqb _ _ (known .if3 .left), eq-eqb _ _ (c .before .if4 .left), lt-ltb _ _ (c .if5 .taken));
-      fits = tt;
-    }
+returns-5 c = let d = c .before .before in
+    record { says = sym (header-split (header d) (sym (c .enum-told2 .given .1) ∙ d .row-told .ensures)); fits = tt }
 
 returns-6 : tie.Need-returns-6
-returns-6 c = let known = c .before .before in
-    let h = header (known .before) in
+returns-6 c = let d = c .before .before .before .before in
+    let told = sym (c .before .before .row .given .1) ∙ d .row-told .ensures in
     record {
-      says = simp (header-split h, ne-eqb _ _ (known .if3 .left), eq-eqb _ _ (c .before .if4 .left), le-ltb _ _ (c .if5 .left));
+      says = sym (header-split (header d) told ∙ simp (le-ltb _ _ (c .if3 .left)));
       fits = record {
-        inside = omega (arith, c .if5 .left, h .some);
-        right = c .before .if4 .left ∙ h .size-is;
-        some = omega (arith, known .if3 .left, c .before .if4 .left);
+        inside = omega (arith, c .if3 .left, header d .some);
+        right = told-in _ _ told .0;
+        section-is = told-in _ _ told .1;
       };
     }
 
@@ -74,7 +80,10 @@ head-at-spec =
     number2-requires
     add-number2
     number2-requires-2
-    body-size-requires
+    row-told-requires
+    enum-told
+    enum-told-2
+    enum-known-row
     returns-3
     returns-4
     returns-5

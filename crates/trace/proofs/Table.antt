@@ -1,0 +1,235 @@
+-- The table of records: each row is told by its kind and length, and making an item of its fields is the inverse of taking it apart.
+use Prim.Native.Nat.{ℕ, zero, suc, _+_, _<_}
+use mathlib.Core.Path.{_≡_, refl, ap, sym, _∙_}
+use mathlib.Core.Logic.{_≢_}
+use mathlib.Core.Bool.{Bool, true, false}
+use mathlib.Core.List.{List, [], _∷_}
+use native.Mathlib.Omega.{arith}
+use lib.ListN.{length, getD}
+use lib.Dec.{ltb, eqb}
+use borrow.Author.Tests.{ltb-true, eqb-true, ne-eqb}
+use Rattle.lists.specs.Choice.{choose, both}
+use Rattle.lists.specs.Search.{All, nil, cons}
+use Rattle.event.specs.Event.{Act, event, drain}
+use Rattle.trace.specs.Bytes.{number, fieldsIn, total}
+use Rattle.trace.specs.Item.{Item, shape, word, request, act}
+use Rattle.trace.specs.Table.{Row, shapeRow, wordRow, requestRow, eventRow, drainRow, rows, bodySize, noRow, isRow, firstRow, kindRow, bodyRow, item, Parts, partsOf, rowOf, section, recordSize}
+use Rattle.trace.specs.Known.{shapeIn, wordIn, requestIn, eventIn, Bodied, moved, movedPast}
+use Rattle.trace.specs.declared.progress.Progress.{Progress}
+use Rattle.trace.specs.declared.record.Listed.the-variants.{NoLength, In}
+use Rattle.trace.proofs.Tests.{both-true, clash}
+use Rattle.trace.proofs.Numbers.{number-one}
+use Rattle.trace.proofs.Fields.{length-fields}
+
+-- ---- what is right of a row
+-- its kind and its size fit in two bytes, a body is not empty, and it is a row
+abbrev sound : Row → Bool
+sound r = both (ltb (r .kind) 65536) (both (ltb (bodySize r) 65536) (both (ltb 0 (bodySize r)) (isRow (kindRow (r .kind)))))
+
+pub record RowRight (r : Row) : Type 0 where
+  pub sizes : sound r ≡ true
+  pub is-row : isRow r ≡ true
+  pub found : bodyRow (r .kind) (bodySize r) ≡ r
+  pub back : (f : List ℕ) → length f ≡ length (r .widths) → partsOf (r .make f) ≡ record { row = r; fields = f }
+
+-- a list of n elements, by its places
+gather : ℕ → ℕ → List ℕ → List ℕ
+gather zero i f = []
+gather (suc n) i f = getD f i 0 ∷ gather n (suc i) f
+
+gather-behind : (n i x : ℕ) (f : List ℕ) → gather n (suc i) (x ∷ f) ≡ gather n i f
+unfolding gather
+gather-behind zero i x f = refl
+gather-behind (suc n) i x f = ap (λ (l : List ℕ). getD f i 0 ∷ l) (gather-behind n (suc i) x f)
+
+gathered : (n : ℕ) (f : List ℕ) → length f ≡ n → gather n 0 f ≡ f
+unfolding gather
+gathered zero [] h = refl
+gathered zero (x ∷ f) h = let z : ⊥ = omega arith in elim z [ ]
+gathered (suc n) [] h = let z : ⊥ = omega arith in elim z [ ]
+gathered (suc n) (x ∷ f) h = ap (λ (l : List ℕ). x ∷ l) (gather-behind n 0 x f ∙ gathered n f (omega arith))
+
+-- ---- each row
+abbrev with-fields : (r : Row) (n : ℕ) (f : List ℕ) → length f ≡ n → _≡_ {A = Parts} (record { row = r; fields = gather n 0 f }) (record { row = r; fields = f })
+with-fields r n f long = ap (λ (l : List ℕ). record { row = r; fields = l }) (gathered n f long)
+
+shape-right : RowRight shapeRow
+unfolding rows kindRow bodyRow firstRow total partsOf gather
+shape-right = record { sizes = refl; is-row = refl; found = refl; back = with-fields shapeRow 3 }
+
+word-right : RowRight wordRow
+unfolding rows kindRow bodyRow firstRow total partsOf gather
+word-right = record { sizes = refl; is-row = refl; found = refl; back = with-fields wordRow 2 }
+
+request-right : RowRight requestRow
+unfolding rows kindRow bodyRow firstRow total partsOf gather
+request-right = record { sizes = refl; is-row = refl; found = refl; back = with-fields requestRow 5 }
+
+event-right : RowRight eventRow
+unfolding rows kindRow bodyRow firstRow total partsOf gather
+event-right = record { sizes = refl; is-row = refl; found = refl; back = with-fields eventRow 3 }
+
+drain-right : RowRight drainRow
+unfolding rows kindRow bodyRow firstRow total partsOf gather
+drain-right = record { sizes = refl; is-row = refl; found = refl; back = with-fields drainRow 1 }
+
+rows-right : All RowRight rows
+unfolding rows
+rows-right = cons shape-right (cons word-right (cons request-right (cons event-right (cons drain-right nil))))
+
+-- ---- each item
+pub record ItemRight (x : Item) : Type 0 where
+  pub row-right : RowRight (rowOf x)
+  pub many : length (partsOf x .fields) ≡ length (rowOf x .widths)
+  pub made : rowOf x .make (partsOf x .fields) ≡ x
+
+pub item-right : (x : Item) → ItemRight x
+unfolding partsOf
+item-right (shape s) = record { row-right = shape-right; many = refl; made = refl }
+item-right (word w) = record { row-right = word-right; many = refl; made = refl }
+item-right (request r) = record { row-right = request-right; many = refl; made = refl }
+item-right (act (event e)) = record { row-right = event-right; many = refl; made = refl }
+item-right (act (drain rounds)) = record { row-right = drain-right; many = refl; made = refl }
+
+-- ---- what follows for any row that is found
+no-row : {G : Type 0} → isRow noRow ≡ true → G
+no-row e = clash (cc)
+
+first-right : {P : Row → Type 0} (test : Row → Bool) {rs : List Row} → All P rs → isRow (firstRow test rs) ≡ true → P (firstRow test rs) × (test (firstRow test rs) ≡ true)
+unfolding firstRow
+first-right test nil is = no-row is
+first-right {P} test (cons {x = r} {xs = rs} p ps) is = go (first-right test ps) (test r) refl is
+  where
+    go : (isRow (firstRow test rs) ≡ true → P (firstRow test rs) × (test (firstRow test rs) ≡ true)) →
+        (t : Bool) → test r ≡ t → isRow (choose t r (firstRow test rs)) ≡ true → P (choose t r (firstRow test rs)) × (test (choose t r (firstRow test rs)) ≡ true)
+    go on true e h = (p, e)
+    go on false e h = on h
+
+-- the row of a body: right, of its kind, and of its length
+pub record Told (kind len : ℕ) : Type 0 where
+  pub right : RowRight (bodyRow kind len)
+  pub kind-is : kind ≡ bodyRow kind len .kind
+  pub size-is : len ≡ bodySize (bodyRow kind len)
+
+pub row-told : (kind len : ℕ) → isRow (bodyRow kind len) ≡ true → Told kind len
+unfolding bodyRow
+row-told kind len is =
+    let found = first-right (λ r. both (eqb kind (r .kind)) (eqb len (bodySize r))) rows-right is in
+    let tests = both-true (eqb kind (bodyRow kind len .kind)) (eqb len (bodySize (bodyRow kind len))) (found .1) in
+    record { right = found .0; kind-is = eqb-true kind _ (tests .0); size-is = eqb-true len _ (tests .1) }
+
+-- what a body says, by its row
+pub item-is : (kind : ℕ) (b : List ℕ) {r : Row} → bodyRow kind (length b) ≡ r → item kind b ≡ r .make (fieldsIn (r .widths) b 0)
+unfolding item
+item-is kind b e = ap (λ (r : Row). r .make (fieldsIn (r .widths) b 0)) e
+
+-- an item that is read has the row and the fields that were read
+pub parts-item : (kind : ℕ) (b : List ℕ) → isRow (bodyRow kind (length b)) ≡ true →
+    partsOf (item kind b) ≡ record { row = bodyRow kind (length b); fields = fieldsIn (bodyRow kind (length b) .widths) b 0 }
+unfolding item
+parts-item kind b is = row-told kind (length b) is .right .back _ (length-fields (bodyRow kind (length b) .widths) b 0)
+
+pub row-item : (kind : ℕ) (b : List ℕ) → isRow (bodyRow kind (length b)) ≡ true → rowOf (item kind b) ≡ bodyRow kind (length b)
+row-item kind b is = ap (λ (p : Parts). p .row) (parts-item kind b is)
+
+pub section-item : {kind n : ℕ} {b : List ℕ} → Bodied kind n b → section (item kind b) ≡ n
+section-item {kind} {n} {b} bodied = ap (λ (r : Row). r .section) (row-item kind b (bodied .right)) ∙ sym (bodied .section-is)
+
+pub body-item-size : (kind : ℕ) (b : List ℕ) → isRow (bodyRow kind (length b)) ≡ true → length b ≡ bodySize (rowOf (item kind b))
+body-item-size kind b is = row-told kind (length b) is .size-is ∙ sym (ap (λ (r : Row). bodySize r) (row-item kind b is))
+
+pub moved-item : (p : Progress) {kind n : ℕ} {b : List ℕ} {x : Item} → Bodied kind n b → item kind b ≡ x → moved p n (length b) ≡ movedPast p x
+moved-item p {kind} {n} {b} bodied e =
+    rw (← (section-item bodied), body-item-size kind b (bodied .right)) (ap (λ (y : Item). moved p (section y) (bodySize (rowOf y))) e)
+
+pub size-item : (kind : ℕ) (b : List ℕ) → isRow (bodyRow kind (length b)) ≡ true → recordSize (item kind b) ≡ 4 + length b
+unfolding recordSize
+size-item kind b is = omega (arith, body-item-size kind b is)
+
+-- a row's numbers
+pub record RowSizes (r : Row) : Type 0 where
+  pub kind-low : r .kind < 65536
+  pub size-low : bodySize r < 65536
+  pub some : 0 < bodySize r
+  pub known : isRow (kindRow (r .kind)) ≡ true
+
+pub row-sizes : (r : Row) → RowRight r → RowSizes r
+row-sizes r right =
+    let a = both-true (ltb (r .kind) 65536) _ (right .sizes) in
+    let b = both-true (ltb (bodySize r) 65536) _ (a .1) in
+    let c = both-true (ltb 0 (bodySize r)) _ (b .1) in
+    record { kind-low = ltb-true _ _ (a .0); size-low = ltb-true _ _ (b .0); some = ltb-true _ _ (c .0); known = c .1 }
+
+-- ---- what the body of each kind says, by its bytes
+-- a kind of one length has bodies of that length alone
+one-length : {n size : ℕ} (r : Row) (test : Bool) → eqb n size ≡ test → isRow (choose test r noRow) ≡ true → n ≡ size
+one-length r true e is = eqb-true _ _ e
+one-length r false e is = no-row is
+
+-- and what the table says of it
+pub one-listed : (test : Bool) (r : Row) → isRow r ≡ true → choose test (In (r .section)) NoLength ≡ choose (isRow (choose test r noRow)) (In (choose test r noRow .section)) NoLength
+one-listed true r is = rw is
+one-listed false r is = refl
+
+-- a body of a kind with a row of one length has that length, and says that item
+pub record Says (b : List ℕ) (kind size : ℕ) (x : Item) : Type 0 where
+  pub long : length b ≡ size
+  pub is : item kind b ≡ x
+
+module _ {kind : ℕ} (b : List ℕ) where
+  pub says-shape : kind ≡ 1 → isRow (bodyRow kind (length b)) ≡ true → Says b kind 3 (shape (shapeIn b))
+  unfolding rows firstRow bodyRow total fieldsIn
+  says-shape one is =
+      let long : length b ≡ 3 = one-length shapeRow (eqb (length b) 3) refl (rw one at is) in
+      record { long = long; is = rw one (item-is 1 b (ap (bodyRow 1) long) ∙ rw (number-one b 0, number-one b 1, number-one b 2)) }
+
+  pub says-word : kind ≡ 2 → isRow (bodyRow kind (length b)) ≡ true → Says b kind 9 (word (wordIn b))
+  unfolding rows firstRow bodyRow total fieldsIn
+  says-word two is =
+      let long : length b ≡ 9 = one-length wordRow (eqb (length b) 9) refl (rw two at is) in
+      record { long = long; is = rw two (item-is 2 b (ap (bodyRow 2) long) ∙ rw (number-one b 0)) }
+
+  pub says-request : kind ≡ 3 → isRow (bodyRow kind (length b)) ≡ true → Says b kind 19 (request (requestIn b))
+  unfolding rows firstRow bodyRow total fieldsIn
+  says-request three is =
+      let long : length b ≡ 19 = one-length requestRow (eqb (length b) 19) refl (rw three at is) in
+      record { long = long; is = rw three (item-is 3 b (ap (bodyRow 3) long) ∙ rw (number-one b 0, number-one b 1, number-one b 2)) }
+
+  pub says-event : kind ≡ 4 → isRow (bodyRow kind (length b)) ≡ true → Says b kind 3 (act (event (eventIn b)))
+  unfolding rows firstRow bodyRow total fieldsIn
+  says-event four is =
+      let long : length b ≡ 3 = one-length eventRow (eqb (length b) 3) refl (rw four at is) in
+      record { long = long; is = rw four (item-is 4 b (ap (bodyRow 4) long) ∙ rw (number-one b 0, number-one b 1, number-one b 2)) }
+
+  pub says-drain : kind ≡ 5 → isRow (bodyRow kind (length b)) ≡ true → Says b kind 2 (act (drain (number 2 b 0)))
+  unfolding rows firstRow bodyRow total fieldsIn
+  says-drain five is =
+      let long : length b ≡ 2 = one-length drainRow (eqb (length b) 2) refl (rw five at is) in
+      record { long = long; is = rw five (item-is 5 b (ap (bodyRow 5) long)) }
+
+  -- the last kind of the table
+  pub last-kind : kind ≢ 1 → kind ≢ 2 → kind ≢ 3 → kind ≢ 4 → isRow (bodyRow kind (length b)) ≡ true → kind ≡ 5
+  unfolding rows firstRow bodyRow
+  last-kind n₁ n₂ n₃ n₄ is =
+      go (eqb kind 5) refl (simp (ne-eqb kind 1 n₁, ne-eqb kind 2 n₂, ne-eqb kind 3 n₃, ne-eqb kind 4 n₄) at is)
+    where
+      go : (test : Bool) → eqb kind 5 ≡ test → isRow (choose (both test (eqb (length b) (bodySize drainRow))) drainRow noRow) ≡ true → kind ≡ 5
+      go true e h = eqb-true kind 5 e
+      go false e h = no-row h
+
+-- a kind that is none of the first three is an act's
+abbrev pub IsAct : Item → Type 0
+IsAct x = (a : Act) × (x ≡ act a)
+
+acts-last : All (λ (r : Row). (f : List ℕ) → r .kind ≢ 1 → r .kind ≢ 2 → r .kind ≢ 3 → IsAct (r .make f)) rows
+unfolding rows
+acts-last =
+    cons (λ f n₁ n₂ n₃. absurd (n₁ refl)) (cons (λ f n₁ n₂ n₃. absurd (n₂ refl)) (cons (λ f n₁ n₂ n₃. absurd (n₃ refl))
+    (cons (λ f n₁ n₂ n₃. (event _, refl)) (cons (λ f n₁ n₂ n₃. (drain _, refl)) nil))))
+
+pub says-act : {kind : ℕ} (b : List ℕ) → kind ≢ 1 → kind ≢ 2 → kind ≢ 3 → isRow (bodyRow kind (length b)) ≡ true → IsAct (item kind b)
+unfolding item bodyRow
+says-act {kind} b n₁ n₂ n₃ is =
+    let kind-is = row-told kind (length b) is .kind-is in
+    let found = first-right (λ r. both (eqb kind (r .kind)) (eqb (length b) (bodySize r))) acts-last is in
+    found .0 _ (λ e. n₁ (kind-is ∙ e)) (λ e. n₂ (kind-is ∙ e)) (λ e. n₃ (kind-is ∙ e))
