@@ -1,4 +1,3 @@
-pub mod Oldest
 pub mod Shape
 pub mod Collected
 pub mod Returned

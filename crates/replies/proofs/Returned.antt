@@ -8,30 +8,30 @@ use lib.ListN.{length, getD, take, drop, length-append, length-take, length-drop
 use lib.Dec.{eqb}
 use borrow.Author.Tests.{lt-ltb, le-ltb}
 use Rattle.lists.specs.Search.{Found, firstOf}
+use Rattle.lists.specs.Pair.{Pair}
 use Rattle.lists.proofs.Tests.{by-cases}
 use Rattle.lists.proofs.Tables.{update2-level}
 use Rattle.lists.proofs.Below.{length-below}
 use Rattle.lists.proofs.Searches.{First, firstOf-is}
+use Rattle.lists.proofs.Lists.{first-is}
 use Rattle.operation.specs.Operation.{applied}
 use Rattle.operation.specs.declared.Operation.{Operation}
 use Rattle.operation.specs.declared.Words.{Words}
 use Rattle.wiring.specs.Wiring.{positionOn}
-use Rattle.lists.specs.Pair.{Pair}
-use Rattle.view.specs.View.{View, withReplies, withCarried, withWaits}
 use Rattle.queue.specs.Queue.{pairIn, pairsOf, noPair, foundAt}
 use Rattle.queue.specs.declared.Pairs.{Pairs}
 use Rattle.queue.specs.declared.Place.{Place}
 use Rattle.queue.specs.declared.Place.the-variants.{At, Nowhere}
+use Rattle.view.specs.View.{View, withReplies, withCarried, withWaits}
+use Rattle.store.specs.Layout.{size}
+use Rattle.store.specs.Memory.{view, Becomes}
 use Rattle.shown.specs.Shown.{operationIn, valued, oldestPair}
 use Rattle.shown.specs.Reached.{single}
 use Rattle.shown.proofs.Reaching.{stands-sound}
 use Rattle.shown.proofs.Returning.{return-lowers, return-lower-full, return-splits, return-split-full}
 use Rattle.shown.proofs.Events.{return-moves}
-use Rattle.store.specs.Layout.{size}
-use Rattle.store.specs.Memory.{view, Becomes}
 use Rattle.moves.specs.Moves.{Moves}
 use Rattle.replies.specs.Returns.{Lowered, SplitOff}
-use Rattle.replies.proofs.Oldest.{oldest-first}
 
 -- as many as the machine's buffer has
 pub length-loaded : (waits : Pairs) {l : List Pair} → pairsOf waits ≡ l → waits .len ≡ length l
@@ -101,7 +101,7 @@ module _ (m : List ℕ) (level p t : ℕ) (up : 0 < level) (low : level ≤ view
   at-level = omega arith
 
   is : view m .replies (suc s) p ≡ t ∷ drop 1 (view m .replies (suc s) p)
-  is = rw at-level (oldest-first (view m .replies level p) t some oldest)
+  is = rw at-level (first-is (view m .replies level p) t some oldest)
 
   module _ (pairs : List Pair) (loaded : pairs ≡ view m .waits level p) where
     looked : (place : Place) → foundAt pairs place ≡ firstOf (λ (r : Pair). eqb (r .first) t) pairs → oldestPair t (view m .waits (suc s) p) ≡ foundAt pairs place

@@ -10,8 +10,10 @@ use lib.Seq.{getD-set-same, getD-set-other}
 use Rattle.lists.specs.Table.{update}
 use Rattle.lists.proofs.Tests.{by-cases}
 use Rattle.lists.proofs.Tables.{update-same, update-other}
+use Rattle.lists.proofs.Lists.{first-is}
 use Rattle.operation.specs.Operation.{applied}
 use Rattle.view.specs.View.{withRequests, withReplies, withCarried, withOrder, withAccess}
+use Rattle.store.specs.Memory.{view, Becomes}
 use Rattle.shown.specs.Network.{Network}
 use Rattle.shown.specs.Shown.{operationIn, valued, tagsFor}
 use Rattle.shown.specs.Reached.{single, Stands}
@@ -20,9 +22,7 @@ use Rattle.shown.proofs.Rely.{request-below, address-few, accesses-few}
 use Rattle.shown.proofs.Expansion.{order-room}
 use Rattle.shown.proofs.ModuleSteps.{module-full, module-shows}
 use Rattle.shown.proofs.Events.{module-moves}
-use Rattle.store.specs.Memory.{view, Becomes}
 use Rattle.moves.specs.Moves.{wordsIn, ReadyWith, MovesWith}
-use Rattle.replies.proofs.Oldest.{oldest-first}
 use Rattle.replies.proofs.Shape.{shape-small}
 
 -- "store f(old)"
@@ -55,7 +55,7 @@ module _ {m words : List ℕ} (R : ReadyWith m words) (k : ℕ) (isK : k ≡ vie
 
       module _ (t : ℕ) (oldest : t ≡ getD (view m .requests k p) 0 0) where
         module-oldest : (x : Network) → Stands x (view m) (wordsIn words) → view m .requests (x .k) p ≡ t ∷ drop 1 (view m .requests (x .k) p)
-        module-oldest x S = rw (module-level x S) at (oldest-first (view m .requests k p) t request-there oldest)
+        module-oldest x S = rw (module-level x S) at (first-is (view m .requests k p) t request-there oldest)
 
         -- the order list has room for the requests that it stands for
         pub order-fits : length (view m .order) + length (tagsFor (view m .fixed .path) (view m .waits) k t) ≤ 256

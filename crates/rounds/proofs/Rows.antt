@@ -4,29 +4,31 @@ use Prim.Native.Nat.{ℕ, _+_, _≤_, _<_, _^_}
 use mathlib.Core.Path.{_≡_, refl, sym, ap, subst, _∙_}
 use mathlib.Core.Logic.{_≢_}
 use mathlib.Core.Bool.{true}
-use mathlib.Core.List.{List, [], _∷_}
+use mathlib.Core.List.{List, []}
 use native.Mathlib.Decide.{decLe}
 use native.Mathlib.Omega.{arith}
 use lib.Dec.{ltb}
 use lib.ListN.{length}
 use Rattle.lists.specs.Choice.{choose}
 use Rattle.lists.proofs.Tests.{by-cases, test-cases}
+use Rattle.lists.proofs.Lists.{length-some}
 use Rattle.words.specs.Digits.{lengthIn, FirstBusy, Above}
 use Rattle.words.proofs.Digits.{digit-none}
 use Rattle.event.specs.Event.{Event, levelFits}
+use Rattle.event.proofs.Steps.{modules-fit, module-level}
 use Rattle.wiring.proofs.Shifts.{width-small}
-use Rattle.machine.specs.Run.{row}
 use Rattle.view.specs.View.{Fixed, View}
+use Rattle.store.specs.Layout.{size}
+use Rattle.store.specs.Memory.{view, RowOf}
+use Rattle.machine.specs.Run.{row}
 use Rattle.shown.specs.Network.{Network}
 use Rattle.shown.specs.Reached.{Stands, Moved, single, restsAt}
-use Rattle.shown.proofs.Levels.{modules-fit, module-level, row-named}
+use Rattle.shown.proofs.Levels.{row-named}
 use Rattle.shown.proofs.Reaching.{moved-stands}
 use Rattle.shown.proofs.Below.{busy-below}
 use Rattle.shown.proofs.Moving.{row-none, row-onward}
 use Rattle.shown.proofs.Rests.{row-skip}
 use Rattle.shown.proofs.Others.{Alike, row-others}
-use Rattle.store.specs.Layout.{size}
-use Rattle.store.specs.Memory.{view, RowOf}
 use Rattle.moves.specs.Moves.{wordsIn, Ready, ReadyWith, Moves, MovesWith}
 
 -- ---- the queues that a kind of step takes from
@@ -39,10 +41,6 @@ empty-rests what level position v = test-cases
     (ltb what 3)
     (λ t e. rw (t, e))
     (λ t e. rw (t, e))
-
-holds-some : {A : Type 0} (l : List A) → l ≢ [] → 0 < length l
-holds-some [] n = absurd (n refl)
-holds-some (a ∷ l) n = omega arith
 
 -- ---- the lengths that are left
 -- the first position from p on with a queue that is not empty; 16 where there is none
@@ -136,7 +134,7 @@ module _ {I : Type 0} {what level : ℕ} {m₀ : List ℕ} {w₀ : I → ℕ →
 
       module _ (h : b < 16) where
         pub row-full : (b < 16) × (0 < length (queuesOf what (view m) level b))
-        row-full = (h, holds-some (queuesOf what (view m) level b) (next .full h))
+        row-full = (h, length-some (queuesOf what (view m) level b) (next .full h))
 
         row-below : b < 2 ^ view m₀ .fixed .k
         row-below = rw (A .stood .fits .k-is) (busy-below row-stands level b (ltb what 3) (row-full .1))

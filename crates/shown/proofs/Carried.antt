@@ -9,16 +9,18 @@ use native.Mathlib.Omega.{arith}
 use Rattle.lists.specs.Choice.{choose}
 use Rattle.lists.specs.Table.{update2}
 use Rattle.lists.specs.Count.{count}
+use Rattle.lists.specs.Pair.{Pair}
+use Rattle.lists.proofs.Tests.{clash}
 use Rattle.lists.proofs.Every.{all-map}
 use Rattle.lists.proofs.Tables.{update-same, update-other, update2-same, update2-other, update2-unique, update2-map}
+use Rattle.lists.proofs.Maps.{map-same, map-append}
+use Rattle.lists.proofs.Counts.{counted-all}
 use Rattle.operation.specs.declared.Words.{Words}
+use Rattle.view.specs.View.{View, withCarried, withRequests}
 use Rattle.machine.specs.Setup.{Setup, Message, WaitRecord, Reply}
 use Rattle.machine.specs.State.{State}
-use Rattle.lists.specs.Pair.{Pair}
-use Rattle.view.specs.View.{View, withCarried, withRequests}
 use Rattle.shown.specs.Network.{Network, setup}
 use Rattle.shown.specs.Shown.{unissued, messageOf, recordOf, replyOf, answerOf, tagsAt}
-use Rattle.shown.proofs.Mapped.{map-same, map-append, counted-all}
 
 -- states with the same parts are the same
 pub state-eq : {S : Setup} (a b : State S) → a .requests ≡ b .requests → a .waits ≡ b .waits → a .replies ≡ b .replies → a .words ≡ b .words →
@@ -73,7 +75,7 @@ module _ (x : Network) (v : View) (t : ℕ) (c : Words) where
   replies-kept l z = replies-same x v (withCarried v t c) l (carried-kept (λ (u : ℕ). u) l z)
 
   pub answers-kept : v .answered t ≡ false → answerOf x (withCarried v t c) ≡ answerOf x v
-  answers-kept n = answers-same x v (withCarried v t c) refl (λ u e. update-other (v .carried) t c (λ d. (let z : _≡_ {A = ℕ} 0 1 = cc in omega arith)))
+  answers-kept n = answers-same x v (withCarried v t c) refl (λ u e. update-other (v .carried) t c (λ d. clash (cc)))
 
   -- by level and position, where t stands in none of the lists
   pub messages-framed : (f : ℕ → ℕ → List ℕ) → ((s p : ℕ) → count (λ (u : ℕ). u) t (f s p) ≡ 0) →

@@ -8,32 +8,25 @@ use native.Mathlib.Omega.{arith}
 use lib.ListN.{length, length-map}
 use Rattle.lists.specs.Table.{update2}
 use Rattle.lists.specs.Count.{same, count, Distinct}
+use Rattle.lists.specs.Pair.{Pair}
 use Rattle.lists.proofs.Tests.{by-cases}
-use Rattle.lists.proofs.Tables.{update2-same, update2-other, update2-ind, update2-unique}
+use Rattle.lists.proofs.Tables.{update2-same, update2-other, update2-unique, update2-two}
 use Rattle.lists.proofs.Counts.{same-yes, same-no, count-append}
+use Rattle.lists.proofs.Maps.{count-map}
 use Rattle.wiring.specs.Wiring.{positionOn}
+use Rattle.view.specs.View.{View, withRequests}
 use Rattle.machine.specs.Setup.{Reply, place}
 use Rattle.machine.specs.Arrival.{arrive}
 use Rattle.machine.specs.Order.{Where, requested, waiting, replying, answered}
 use Rattle.machine.specs.Steps.{sent, nodeAt, forwardStep}
-use Rattle.lists.specs.Pair.{Pair}
-use Rattle.view.specs.View.{View, withRequests}
 use Rattle.shown.specs.Network.{Network, setup, ofEngine}
 use Rattle.shown.specs.Shown.{unissued, messageOf, recordOf, replyOf, answerOf, tagsAt, shown}
 use Rattle.shown.specs.Landing.{Came, cameRefused, nodeOf, arrivalOf, mergesAfter, withNode, Landed}
 use Rattle.shown.specs.Reached.{Stands}
-use Rattle.shown.proofs.Mapped.{count-map}
 use Rattle.shown.proofs.Apart.{tagTimes, other-kind, request-elsewhere, oldest-requested}
 use Rattle.shown.proofs.Carried.{state-eq, messages-same, records-same, replies-same, answers-same, tagsIn, tags-updated}
 use Rattle.shown.proofs.Reaching.{stands-apart}
 use Rattle.shown.proofs.Arrivals.{arrive-full, refused-rests, landed-sends}
-
--- a table that is changed at two places
-update2-two : {A : Type 0} (f g : ℕ → ℕ → A) (s p : ℕ) (a : A) (s′ p′ : ℕ) (b : A) → g s′ p′ ≡ b → g s p ≡ a →
-    ((i j : ℕ) → ¬ ((i ≡ s) × (j ≡ p)) → ¬ ((i ≡ s′) × (j ≡ p′)) → g i j ≡ f i j) → g ≡ update2 (update2 f s p a) s′ p′ b
-update2-two f g s p a s′ p′ b here′ here others =
-    update2-unique (update2 f s p a) g s′ p′ b here′
-    (λ i j n. update2-ind f s p a (λ i j y. ¬ ((i ≡ s′) × (j ≡ p′)) → g i j ≡ y) (λ _. here) (λ i j m n. others i j m n) i j n)
 
 -- the oldest of a queue is the first of its tags
 pub oldest-first : (x : Network) (v : View) (s p t : ℕ) (rest : List ℕ) → v .requests s p ≡ t ∷ rest → (behind : List ℕ) × (tagsAt x v s p ≡ t ∷ behind)

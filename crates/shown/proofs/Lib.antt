@@ -1,4 +1,3 @@
-pub mod Mapped
 pub mod Apart
 pub mod Carried
 pub mod Rely

@@ -1,5 +1,5 @@
 -- Queues and wait buffers in their regions: read, and written at one level and position.
-use Prim.Native.Nat.{ℕ, zero, suc, _+_, _-_, _*_, _≤_, _<_}
+use Prim.Native.Nat.{ℕ, suc, _+_, _-_, _*_, _≤_, _<_}
 use mathlib.Core.Path.{_≡_, refl, sym, ap, _∙_}
 use mathlib.Core.Logic.{_≢_}
 use mathlib.Core.List.{List, [], _∷_, _++_}
@@ -11,19 +11,18 @@ use lib.Dec.{eqb, ltb}
 use lib.ListN.{length, getD, set, drop, length-set}
 use lib.Seq.{getD-set-same, getD-set-other}
 use Rattle.lists.specs.Choice.{choose}
-use Rattle.lists.specs.Table.{update, update2, downFrom}
+use Rattle.lists.specs.Table.{update, update2}
 use Rattle.lists.proofs.Tests.{by-cases, choose-yes, choose-no}
-use Rattle.lists.proofs.Tables.{update-same, update-other}
-use Rattle.lists.proofs.Below.{length-below, length-down, down-push}
+use Rattle.lists.proofs.Tables.{update-same, update-other, update-idle}
+use Rattle.lists.proofs.Below.{length-below, length-down, down-push, down-less}
 use Rattle.words.specs.Digits.{lengthIn, byteIn, Pushed}
 use Rattle.words.proofs.Digits.{digit-low}
-use Rattle.view.specs.View.{withRequests, withReplies, withWaits}
 use Rattle.queue.specs.declared.Tags.{Tags}
 use Rattle.queue.specs.Queue.{tagsIn, pairsIn, tagsOf}
+use Rattle.view.specs.View.{withRequests, withReplies, withWaits}
 use Rattle.store.specs.Layout.{size, atCount, atRequestLengths, atReplyLengths, atWaitLengths, atRequests, atReplies, atFirsts, atSeconds}
 use Rattle.store.specs.Memory.{gridAt, lengthsAt, requestsAt, buffersAt, fixedIn, view, Becomes, RowOf}
 use Rattle.store.proofs.Grid.{grid-here, grid-changed}
-use Rattle.store.proofs.Columns.{update-idle}
 use Rattle.store.proofs.Held.{Reading, asTags, alone, asRequests, heldAt, requests-held, requests-above, Told, tags-told, alone-first, requests-none, requests-told}
 use Rattle.store.proofs.Regions.{Kept, becomes}
 
@@ -121,12 +120,6 @@ replies-changed : {m m′ : List ℕ} {level position : ℕ} {l : List ℕ} →
     Changed asTags atReplyLengths atReplies m m′ level position l → Becomes m′ (withReplies (view m) level position l)
 unfolding view
 replies-changed {m} {m′} c = becomes atReplyLengths 5 atReplies 80 m m′ (c .outside) (c .sized) (rw (c .inside))
-
--- the oldest goes, and the word is as it was
-down-less : (n : ℕ) (f : ℕ → ℕ) → 0 < n → downFrom (n - 1) f ≡ drop 1 (downFrom n f)
-unfolding downFrom
-down-less zero f h = absurd (omega arith)
-down-less (suc n) f h = let e : suc n - 1 ≡ n = omega arith in rw e
 
 module _ (read : Reading) (lengths from : ℕ) (m : List ℕ) (level position : ℕ)
     (placed : (lengths + 5 ≤ from) × (from + 80 ≤ size)) (on : (level < 5) × (position < 16)) (fits : length m ≡ size) where

@@ -1,7 +1,7 @@
 -- What a write changes of the view: a part that stands in none of the regions of the write is kept.
 use Prim.Native.Nat.{ℕ, _+_, _*_, _/_, _≤_, _<_}
 use mathlib.Core.Path.{_≡_, refl, sym, ap₂, _∙_}
-use mathlib.Core.Bool.{Bool, true, false, false≢true}
+use mathlib.Core.Bool.{Bool, true, false}
 use mathlib.Core.List.{List}
 use native.Mathlib.Omega.{arith}
 use borrow.Author.Tests.{leb-true}
@@ -9,7 +9,7 @@ use lib.Dec.{leb}
 use lib.ListN.{length, getD}
 use Rattle.lists.specs.Choice.{choose, both}
 use Rattle.lists.specs.Table.{listBelow}
-use Rattle.lists.proofs.Tests.{test-cases}
+use Rattle.lists.proofs.Tests.{test-cases, both-true}
 use Rattle.view.specs.View.{View}
 use Rattle.store.specs.Layout.{size, atK, atQ, atW, atCount, atEvery, atAnswered, atOrdered, atAccesses, atMerges, atRounds, atRequestLengths, atReplyLengths, atWaitLengths}
 use Rattle.store.specs.Layout.{atOrder, atRequests, atReplies, atFirsts, atSeconds, atHeads, atFirstOperands, atSecondOperands}
@@ -91,10 +91,6 @@ apart-true from size a n k e h z = go (leb (from + size) a) refl e
     go : (t : Bool) → leb (from + size) a ≡ t → choose t true (leb (a + n) from) ≡ true → ⊥
     go true f g = omega (arith, leb-true (from + size) a f)
     go false f g = omega (arith, leb-true (a + n) from g)
-
-both-true : (s t : Bool) → both s t ≡ true → (s ≡ true) × (t ≡ true)
-both-true true t e = (refl, e)
-both-true false t e = absurd (false≢true e)
 
 module _ (a n b l : ℕ) where
   -- a region that the two do not meet

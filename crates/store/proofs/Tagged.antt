@@ -8,7 +8,7 @@ use borrow.Author.Tests.{lt-ltb}
 use lib.ListN.{length, getD, set, length-set}
 use lib.Seq.{getD-set-same, getD-set-other}
 use Rattle.lists.specs.Table.{update}
-use Rattle.lists.proofs.Tables.{update-same, update-other}
+use Rattle.lists.proofs.Tables.{update-same, update-other, update-unique, update-idle, update-map}
 use Rattle.operation.specs.declared.Operation.{Operation}
 use Rattle.operation.specs.declared.Words.{Words}
 use Rattle.operation.specs.Operation.{wordsOf}
@@ -16,7 +16,7 @@ use Rattle.operation.proofs.Laws.{code-byte}
 use Rattle.view.specs.View.{Fixed, withFixed, withCarried, withRequest, linked}
 use Rattle.store.specs.Layout.{size, atK, atQ, atW, atCount, atEvery, atHeads, atFirstOperands, atSecondOperands}
 use Rattle.store.specs.Memory.{columnAt, codeOf, addressOf, pathOf, afterOf, fixedIn, carriedIn, view, Becomes}
-use Rattle.store.proofs.Columns.{tags-changed, update-unique, update-idle, update-map}
+use Rattle.store.proofs.Columns.{tags-changed}
 use Rattle.store.proofs.Regions.{Kept, marks-same, becomes}
 use Rattle.store.proofs.Heads.{Head, head-new, head-linked, head-coded}
 

@@ -1,6 +1,6 @@
 -- `collects` meets its contract.
 use native.Mathlib.Omega.{arith}
-use Rattle.shown.proofs.Levels.{collects-fit}
+use Rattle.event.proofs.Steps.{collects-fit}
 use Rattle.rounds.proofs.Rows.{Alone, going-full, alone-begins, alone-ready, alone-rests, alone-goes}
 use Rattle.rounds.proofs.collects.Statement.{statement}
 use Rattle.rounds.proofs.collects.Tie as tie

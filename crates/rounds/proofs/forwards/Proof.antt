@@ -1,6 +1,6 @@
 -- `forwards` meets its contract.
 use native.Mathlib.Omega.{arith}
-use Rattle.shown.proofs.Levels.{forwards-fit}
+use Rattle.event.proofs.Steps.{forwards-fit}
 use Rattle.rounds.proofs.Rows.{Alone, row-same, going-full, levels-within, alone-begins, alone-ready, alone-rests, alone-goes}
 use Rattle.rounds.proofs.forwards.Statement.{statement}
 use Rattle.rounds.proofs.forwards.Tie as tie

@@ -1,6 +1,6 @@
 -- `issues` meets its contract.
 use native.Mathlib.Omega.{arith}
-use Rattle.shown.proofs.Levels.{issues-fit}
+use Rattle.event.proofs.Steps.{issues-fit}
 use Rattle.rounds.proofs.Rows.{Alone, going-full, alone-begins, alone-ready, alone-rests, alone-goes}
 use Rattle.rounds.proofs.issues.Statement.{statement}
 use Rattle.rounds.proofs.issues.Tie as tie

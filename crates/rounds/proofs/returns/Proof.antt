@@ -1,6 +1,6 @@
 -- `returns` meets its contract.
 use native.Mathlib.Omega.{arith}
-use Rattle.shown.proofs.Levels.{returns-fit}
+use Rattle.event.proofs.Steps.{returns-fit}
 use Rattle.rounds.proofs.Rows.{Alone, row-same, going-full, levels-within, alone-begins, alone-ready, alone-rests, alone-goes}
 use Rattle.rounds.proofs.returns.Statement.{statement}
 use Rattle.rounds.proofs.returns.Tie as tie
