@@ -204,6 +204,16 @@ module _ {what level : ℕ} {m₀ : List ℕ} where
     pub alone-ready : Ready m
     alone-ready = record { sized = A .row .sized; network = A .row .network; words = A .row .which; stands = row-stands (A .row) }
 
+    -- what the step at the first position with something to move asks for; above the engines its level too
+    pub alone-asks : {b : ℕ} → FirstBusy left b → Ready m × ((b < 16) × (0 < length (queuesOf what (view m) level b)))
+    alone-asks first = (alone-ready, going-full A first)
+
+    pub alone-asks-at : (Inside : ℕ → Type 0) {b : ℕ} → FirstBusy left b → (0 < level) × Inside (view m₀ .fixed .k) →
+        Ready m × (((0 < level) × Inside (view m .fixed .k) × (b < 16)) × (0 < length (queuesOf what (view m) level b)))
+    alone-asks-at Inside first l =
+        let full = going-full A first in
+        (alone-ready, ((l .0, subst Inside (sym (row-same (A .row))) (l .1), full .0), full .1))
+
     pub alone-rests : left ≡ 0 → Moves (row what level (2 ^ view m₀ .fixed .k)) m₀ m
     alone-rests z = record { sized = A .row .sized; moved = going-rests A z }
 
