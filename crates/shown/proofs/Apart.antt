@@ -128,10 +128,6 @@ module _ (x : Network) where
   }
 
   module _ (v : View) (A : Apart v) where
-    -- in two places at once there is none
-    pub alone : (t : ℕ) (w w′ : Where (setup x)) → 0 < tagTimes v t w → 0 < tagTimes v t w′ → w ≡ w′
-    alone t w w′ h g = by-cases (where-discrete w w′) (λ (e : w ≡ w′). e) (λ (n : w ≢ w′). absurd (omega (arith, A .elsewhere t w′ w g n)))
-
     -- ---- tags in queues and buffers are of requests
     pub waits-below : (s p : ℕ) → All (λ (r : Pair). r .second < x .R) (v .waits s p)
     waits-below s p = counted-all (λ (r : Pair). r .second) (λ t. t < x .R) (v .waits s p) (λ t h. A .below t (waiting s p) h)

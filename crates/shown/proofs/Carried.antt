@@ -52,10 +52,6 @@ module _ (x : Network) (v v′ : View) where
       go u true e = rw (h u e)
       go u false e = refl
 
-  pub records-all : (f : ℕ → ℕ → List Pair) → ((s p u : ℕ) → 0 < count (λ (r : Pair). r .second) u (f s p) → v′ .carried u ≡ v .carried u) →
-      _≡_ {A = ℕ → ℕ → List (WaitRecord (setup x))} (λ s p. map (recordOf x v′) (f s p)) (λ s p. map (recordOf x v) (f s p))
-  records-all f h = fun-ext (λ s. fun-ext (λ p. records-same (f s p) (h s p)))
-
 -- ---- one tag carries something else: what stands in lists without that tag is shown as it was
 module _ (x : Network) (v : View) (t : ℕ) (c : Words) where
   -- what is counted where t is not keeps what it carries

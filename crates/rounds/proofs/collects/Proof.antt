@@ -1,4 +1,4 @@
--- `collects` meets its contract.
+-- `collects` meets its contract: a row of collects. The loop's invariant: the row up to the positions whose lengths are left. Its measure: those lengths.
 use native.Mathlib.Omega.{arith}
 use Rattle.event.proofs.Steps.{collects-fit}
 use Rattle.rounds.proofs.Rows.{Alone, alone-begins, alone-asks, alone-rests, alone-goes}

@@ -1,4 +1,4 @@
--- `forwards` meets its contract.
+-- `forwards` meets its contract: a row of forwards, as that of collects.
 use Prim.Native.Nat.{_<_}
 use native.Mathlib.Omega.{arith}
 use Rattle.event.proofs.Steps.{forwards-fit}

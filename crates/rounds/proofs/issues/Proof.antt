@@ -1,4 +1,4 @@
--- `issues` meets its contract.
+-- `issues` meets its contract: a row of issues, as that of collects.
 use native.Mathlib.Omega.{arith}
 use Rattle.event.proofs.Steps.{issues-fit}
 use Rattle.rounds.proofs.Rows.{Alone, alone-begins, alone-asks, alone-rests, alone-goes}

@@ -1,4 +1,4 @@
--- `returns` meets its contract.
+-- `returns` meets its contract: a row of returns, as that of collects.
 use Prim.Native.Nat.{_≤_}
 use native.Mathlib.Omega.{arith}
 use Rattle.event.proofs.Steps.{returns-fit}
