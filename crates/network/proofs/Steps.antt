@@ -36,7 +36,8 @@ module _ {m words : List ℕ} {what level position : ℕ} (N : Named m words wha
 
   -- which kind it is where it is none of the first four
   pub last-kind : what ≢ 0 → what ≢ 1 → what ≢ 2 → what ≢ 3 → what ≡ 4
-  last-kind n0 n1 n2 n3 = step-named (view m .fixed .k) what level (N .fits) (λ e. absurd (n0 e)) (λ e. absurd (n1 e)) (λ e. absurd (n2 e)) (λ e. absurd (n3 e)) (λ e. e)
+  last-kind n0 n1 n2 n3 =
+      step-named (view m .fixed .k) what level (N .fits) (λ e. absurd (n0 e)) (λ e. absurd (n1 e)) (λ e. absurd (n2 e)) (λ e. absurd (n3 e)) (λ e. e)
 
   -- ---- the levels of a kind
   level-0 : what ≡ 0 → level ≡ 0
@@ -95,7 +96,8 @@ module _ {m words : List ℕ} {what level position : ℕ} (N : Named m words wha
   pub forwarded : what ≡ 1 → {m′ : List ℕ} → Moves (single 1 level position) m m′ → MovesWith (single what level position) m words m′ words
   forwarded is M = rw is (keeps-words M)
 
-  pub served : what ≡ 2 → {m′ words′ : List ℕ} → MovesWith (single 2 (view m .fixed .k) position) m words m′ words′ → MovesWith (single what level position) m words m′ words′
+  pub served : what ≡ 2 → {m′ words′ : List ℕ} → MovesWith (single 2 (view m .fixed .k) position) m words m′ words′ →
+      MovesWith (single what level position) m words m′ words′
   served is M = rw (is, level-2 is) M
 
   pub returned : what ≡ 3 → {m′ : List ℕ} → Moves (single 3 level position) m m′ → MovesWith (single what level position) m words m′ words

@@ -113,7 +113,8 @@ module _ (x : Network) (v : View) (n : Node) (t : ℕ) where
       combined older f younger none = refl
       combined older f younger (some o) = rw (length-waiting x v n, le-ltb _ _ full)
 
-      met : (f : Found (Message (setup x))) → machine.meet (setup x) (nodeIn x v n) (messageOf x v t) f ≡ machine.append (setup x) (nodeIn x v n) (messageOf x v t)
+      met : (f : Found (Message (setup x))) →
+          machine.meet (setup x) (nodeIn x v n) (messageOf x v t) f ≡ machine.append (setup x) (nodeIn x v n) (messageOf x v t)
       met absent = refl
       met (found older f younger) = combined older f younger (setup x .merge (f .operation) (operationIn (v .carried t)))
 

@@ -29,5 +29,6 @@ collected {m} {m₁} {m₂} e t some oldest popped marked =
     let is : view m₂ ≡ withAnswer (withReplies (view m) 0 e (drop 1 (view m .replies 0 e))) t = marked .holds ∙ ap (λ (v : View). withAnswer v t) (popped .holds) in
     record {
       sized = marked .sized;
-      moved = λ x words _. rw is (collect-moves 4 0 e refl refl refl (collect-shows x (view m) words e t (drop 1 (view m .replies 0 e)) (first-is (view m .replies 0 e) t some oldest)));
+      moved =
+          λ x words _. rw is (collect-moves 4 0 e refl refl refl (collect-shows x (view m) words e t (drop 1 (view m .replies 0 e)) (first-is (view m .replies 0 e) t some oldest)));
     }

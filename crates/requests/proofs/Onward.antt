@@ -83,7 +83,8 @@ module _ {m : List ℕ} {es : List Event} {s p t to : ℕ} (G : Going m es s p t
   going-few = rw add-one (requests-few (G .ready .stands) s to, waits-few (G .ready .stands) (suc s) to)
 
   -- neither the queue nor the wait buffer has room
-  pub full-moves : {r : Bool} → r ≡ both (leb (view m .fixed .q) (length (view m .requests (s + 1) to))) (leb (view m .fixed .w) (length (view m .waits (s + 1) to)))
+  pub full-moves : {r : Bool} →
+      r ≡ both (leb (view m .fixed .q) (length (view m .requests (s + 1) to))) (leb (view m .fixed .w) (length (view m .waits (s + 1) to)))
       → r ≡ true → Moves es m m
   full-moves full taken = record {
     sized = G .ready .sized;

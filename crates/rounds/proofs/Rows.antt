@@ -126,7 +126,8 @@ module _ {I : Type 0} {what level : ℕ} {m₀ : List ℕ} {w₀ : I → ℕ →
     -- b is the next position with something to move
     module _ {b : ℕ} (next : NextFull (queuesOf what (view m) level) p b) where
       passed : (q : ℕ) → p ≤ q → q ≤ b → Brings (row what level q) m₀ w₀ m w
-      passed q l h x i S = row-skip what level p (fits-network S) (A .moved x i S) q l (λ j f g. empty-rests what level j (view m) (next .empty j f (omega arith)))
+      passed q l h x i S =
+          row-skip what level p (fits-network S) (A .moved x i S) q l (λ j f g. empty-rests what level j (view m) (next .empty j f (omega arith)))
 
       -- there is none
       row-rests : 16 ≤ b → Brings (row what level (2 ^ view m₀ .fixed .k)) m₀ w₀ m w
@@ -197,7 +198,8 @@ abbrev pub Alone : (what level : ℕ) (m₀ m : List ℕ) (left : ℕ) → Type 
 Alone what level m₀ m left = Going {I = ℕ → ℕ} what level m₀ (λ words. words) m (λ words. words) left
 
 module _ {what level : ℕ} {m₀ : List ℕ} where
-  pub alone-begins : {left : ℕ} → levelFits (view m₀ .fixed .k) what level ≡ true → Ready m₀ → RowOf (queuesOf what (view m₀) level) left → Alone what level m₀ m₀ left
+  pub alone-begins : {left : ℕ} → levelFits (view m₀ .fixed .k) what level ≡ true → Ready m₀ → RowOf (queuesOf what (view m₀) level) left →
+      Alone what level m₀ m₀ left
   alone-begins f R lengths = record { at = 0; row = row-begins f (R .sized) (R .network) (R .words) (R .stands); ahead = ahead-all lengths }
 
   module _ {left : ℕ} {m : List ℕ} (A : Alone what level m₀ m left) where
@@ -226,7 +228,8 @@ pub record Served (level : ℕ) (m₀ words₀ m words : List ℕ) (left : ℕ) 
   pub going : Going {I = Unit {0}} 2 level m₀ (λ _. wordsIn words₀) m (λ _. wordsIn words) left
 
 module _ {level : ℕ} {m₀ words₀ : List ℕ} where
-  pub served-begins : {left : ℕ} → level ≡ view m₀ .fixed .k → ReadyWith m₀ words₀ → RowOf (view m₀ .requests level) left → Served level m₀ words₀ m₀ words₀ left
+  pub served-begins : {left : ℕ} → level ≡ view m₀ .fixed .k → ReadyWith m₀ words₀ → RowOf (view m₀ .requests level) left →
+      Served level m₀ words₀ m₀ words₀ left
   served-begins l R lengths = record {
     words-sized = R .words-sized;
     going = record {
@@ -250,7 +253,8 @@ module _ {level : ℕ} {m₀ words₀ : List ℕ} where
       pub served-full : (b < 16) × (0 < length (view m .requests (view m .fixed .k) b))
       served-full = rw (row-same (A .going .row), ← at-modules) (going-full (A .going) first)
 
-      pub served-goes : {left′ : ℕ} → Above left b left′ → (m′ words′ : List ℕ) → MovesWith (single 2 (view m .fixed .k) b) m words m′ words′ → Served level m₀ words₀ m′ words′ left′
+      pub served-goes : {left′ : ℕ} → Above left b left′ → (m′ words′ : List ℕ) → MovesWith (single 2 (view m .fixed .k) b) m words m′ words′ →
+          Served level m₀ words₀ m′ words′ left′
       served-goes over m′ words′ M = record {
         words-sized = M .words-sized;
         going = going-on (A .going) first over (M .sized) (λ x i S.

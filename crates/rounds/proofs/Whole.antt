@@ -114,7 +114,8 @@ pub record Going (es : List Event) (m₀ words₀ m words : List ℕ) : Type 0 w
 module _ (events : ℕ → List Event) (fit : (k : ℕ) → 0 < k → AllFit k (events k)) where
   pub with-stand : {m words m′ words′ : List ℕ} → MovesWith (events (view m .fixed .k)) m words m′ words′
       → (x : Network) → Stands x (view m) (wordsIn words) → Stands x (view m′) (wordsIn words′)
-  with-stand {m} M x S = moved-stands S (subst (λ k. AllFit k (events (view m .fixed .k))) (S .fits .k-is) (fit (view m .fixed .k) (levels-within S .0))) (M .moved x S)
+  with-stand {m} M x S =
+      moved-stands S (subst (λ k. AllFit k (events (view m .fixed .k))) (S .fits .k-is) (fit (view m .fixed .k) (levels-within S .0))) (M .moved x S)
 
   going-onward : {es : List Event} {m₀ words₀ m words m′ words′ : List ℕ} → Going es m₀ words₀ m words → MovesWith (events (view m .fixed .k)) m words m′ words′
       → Going (es ++ events (view m₀ .fixed .k)) m₀ words₀ m′ words′
@@ -143,7 +144,8 @@ serving k = returning k ++ row 2 k (2 ^ k)
 abbrev forwarding : ℕ → List Event
 forwarding k = serving k ++ rowsDown 1 (k - 1) (2 ^ k)
 
-pub round-collects : {m words m′ : List ℕ} → ReadyWith m words → Moves (row 4 0 (2 ^ view m .fixed .k)) m m′ → Going (collecting (view m .fixed .k)) m words m′ words
+pub round-collects : {m words m′ : List ℕ} → ReadyWith m words → Moves (row 4 0 (2 ^ view m .fixed .k)) m m′ →
+    Going (collecting (view m .fixed .k)) m words m′ words
 round-collects R M = going-onward (λ k. row 4 0 (2 ^ k)) (λ k h. row-named k 4 0 (2 ^ k) (collects-fit k))
     (record { ready = R; same = refl; stands = λ x S. S; moves = record { sized = R .sized; words-sized = R .words-sized; moved = λ x S. moved-none } })
     (moves-with M (R .words-sized))
@@ -153,7 +155,8 @@ module _ {m₀ words₀ m words m′ : List ℕ} where
       → Going (returning (view m₀ .fixed .k)) m₀ words₀ m′ words
   round-returns A M = going-onward (λ k. rowsUp 3 k (2 ^ k)) (λ k h. up-named k 3 k (2 ^ k) (returns-fit k)) A (moves-with M (A .ready .words-sized))
 
-  pub round-modules : {words′ : List ℕ} → Going (returning (view m₀ .fixed .k)) m₀ words₀ m words → MovesWith (row 2 (view m .fixed .k) (2 ^ view m .fixed .k)) m words m′ words′
+  pub round-modules : {words′ : List ℕ} → Going (returning (view m₀ .fixed .k)) m₀ words₀ m words →
+      MovesWith (row 2 (view m .fixed .k) (2 ^ view m .fixed .k)) m words m′ words′
       → Going (serving (view m₀ .fixed .k)) m₀ words₀ m′ words′
   round-modules A M = going-onward (λ k. row 2 k (2 ^ k)) (λ k h. row-named k 2 k (2 ^ k) (modules-fit k)) A M
 

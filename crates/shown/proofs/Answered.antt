@@ -35,7 +35,8 @@ module _ (x : Network) (v : View) (words : ℕ → ℕ) where
     pub all-answered : ((t : ℕ) → v .answered t ≡ v .fixed .every t) → allAnswered (setup x) (shown x v words) ≡ true
     all-answered h = answered-all (x .R) (λ t l. h t ∙ F .every-is t ∙ lt-ltb t (x .R) l)
 
-    pub not-all-answered : OnePlace (setup x) (shown x v words) → ¬ ((t : ℕ) → v .answered t ≡ v .fixed .every t) → allAnswered (setup x) (shown x v words) ≡ false
+    pub not-all-answered : OnePlace (setup x) (shown x v words) → ¬ ((t : ℕ) → v .answered t ≡ v .fixed .every t) →
+        allAnswered (setup x) (shown x v words) ≡ false
     not-all-answered P n = test-fails (allAnswered (setup x) (shown x v words)) (λ e. n (λ t. marks e t ∙ sym (F .every-is t)))
       where
         marks : allAnswered (setup x) (shown x v words) ≡ true → (t : ℕ) → v .answered t ≡ ltb t (x .R)

@@ -151,6 +151,7 @@ module _ (x : Network) where
     pub oldest-replying : {t : ℕ} {rest : List ℕ} → v .replies s p ≡ t ∷ rest → 0 < tagTimes v t (replying s p)
     oldest-replying is = oldest-counted (λ (u : ℕ). u) is
 
-    pub pair-waiting : (t : ℕ) {older : List Pair} {r : Pair} {younger : List Pair} → oldestPair t (v .waits s p) ≡ found older r younger → 0 < tagTimes v (r .second) (waiting s p)
+    pub pair-waiting : (t : ℕ) {older : List Pair} {r : Pair} {younger : List Pair} → oldestPair t (v .waits s p) ≡ found older r younger →
+        0 < tagTimes v (r .second) (waiting s p)
     unfolding oldestPair
     pair-waiting t is = found-counted (λ (r : Pair). r .second) _ (v .waits s p) is

@@ -29,12 +29,14 @@ state-eq a b p q r w o n c m = λ i. record { requests = p i; waits = q i; repli
 
 -- ---- two views of the same requests, that agree on what the tags of a list carry
 module _ (x : Network) (v v′ : View) where
-  pub messages-same : v′ .fixed ≡ v .fixed → (l : List ℕ) → ((u : ℕ) → 0 < count (λ (t : ℕ). t) u l → v′ .carried u ≡ v .carried u) → map (messageOf x v′) l ≡ map (messageOf x v) l
+  pub messages-same : v′ .fixed ≡ v .fixed → (l : List ℕ) → ((u : ℕ) → 0 < count (λ (t : ℕ). t) u l → v′ .carried u ≡ v .carried u) →
+      map (messageOf x v′) l ≡ map (messageOf x v) l
   messages-same f l h =
       map-same (messageOf x v) (messageOf x v′)
       (counted-all (λ (t : ℕ). t) (λ u. messageOf x v′ u ≡ messageOf x v u) l (λ u z. rw (f, h u z)))
 
-  pub records-same : (l : List Pair) → ((u : ℕ) → 0 < count (λ (r : Pair). r .second) u l → v′ .carried u ≡ v .carried u) → map (recordOf x v′) l ≡ map (recordOf x v) l
+  pub records-same : (l : List Pair) → ((u : ℕ) → 0 < count (λ (r : Pair). r .second) u l → v′ .carried u ≡ v .carried u) →
+      map (recordOf x v′) l ≡ map (recordOf x v) l
   records-same l h =
       map-same (recordOf x v) (recordOf x v′)
       (all-map (λ r e. rw e) (counted-all (λ (r : Pair). r .second) (λ u. v′ .carried u ≡ v .carried u) l h))

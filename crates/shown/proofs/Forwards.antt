@@ -74,7 +74,8 @@ module _ {x : Network} {v : View} {words : ℕ → ℕ} (S : Stands x v words) (
       (omega (arith, same-yes t, elsewhere (requested (suc s) to) (onward to), elsewhere (waiting (suc s) to) (other-kind _ _ (λ d. omega arith)))))
       (λ (n : t ≢ u). go (tagTimes x v u (requested (suc s) to)) refl n))
     where
-      go : (n : ℕ) → tagTimes x v u (requested (suc s) to) ≡ n → t ≢ u → same t u + (tagTimes x v u (requested (suc s) to) + tagTimes x v u (waiting (suc s) to)) ≤ 1
+      go : (n : ℕ) → tagTimes x v u (requested (suc s) to) ≡ n → t ≢ u →
+          same t u + (tagTimes x v u (requested (suc s) to) + tagTimes x v u (waiting (suc s) to)) ≤ 1
       go zero e n = omega (arith, same-no n, stands-apart S .once u (waiting (suc s) to))
       go (suc m) e n =
           omega (
@@ -94,7 +95,8 @@ module _ {x : Network} {v : View} {words : ℕ → ℕ} (S : Stands x v words) (
     shown-oldest = ap (map (messageOf x v)) is
 
     -- neither the queue nor the wait buffer has room
-    pub forward-full : x .Q ≤ length (v .requests (suc s) to) → x .W ≤ length (v .waits (suc s) to) → shown x v words ≡ forwardStep (setup x) s p (shown x v words)
+    pub forward-full : x .Q ≤ length (v .requests (suc s) to) → x .W ≤ length (v .waits (suc s) to) →
+        shown x v words ≡ forwardStep (setup x) s p (shown x v words)
     unfolding shown
     forward-full h g = refused-rests x (shown x v words) s p (messageOf x v t) (map (messageOf x v) rest) shown-oldest to placed
         (arrive-full (setup x) (nodeAt (setup x) (shown x v words) (suc s) to) (messageOf x v t)
@@ -124,7 +126,8 @@ module _ {x : Network} {v : View} {words : ℕ → ℕ} (S : Stands x v words) (
           more = ap (count (λ (w : ℕ). w) u) is
 
       waits-sent : (λ (i j : ℕ). map (recordOf x v′) (v′ .waits i j)) ≡ update2 (λ (i j : ℕ). map (recordOf x v) (v .waits i j)) (suc s) to (map (recordOf x v′) (v′ .waits (suc s) to))
-      waits-sent = update2-unique (λ (i j : ℕ). map (recordOf x v) (v .waits i j)) (λ (i j : ℕ). map (recordOf x v′) (v′ .waits i j)) (suc s) to (map (recordOf x v′) (v′ .waits (suc s) to)) refl
+      waits-sent =
+          update2-unique (λ (i j : ℕ). map (recordOf x v) (v .waits i j)) (λ (i j : ℕ). map (recordOf x v′) (v′ .waits i j)) (suc s) to (map (recordOf x v′) (v′ .waits (suc s) to)) refl
           (λ i j n. ap (λ (y : View). map (recordOf x v′) (y .waits i j)) (L .changes)
           ∙ ap (map (recordOf x v′)) (update2-other (v .waits) (suc s) to _ i j n)
           ∙ records-same x v v′ (v .waits i j) (kept (waiting i j) (other-kind _ _ (λ e. omega arith)) (other-kind _ _ (λ e. omega arith))))
@@ -148,7 +151,8 @@ module _ {x : Network} {v : View} {words : ℕ → ℕ} (S : Stands x v words) (
 
         requests-sent : (λ (i j : ℕ). map (messageOf x v′) (tagsAt x (withRequests v′ s p l) i j)) ≡
             update2 (update2 (λ (i j : ℕ). map (messageOf x v) (tagsAt x v i j)) s p (map (messageOf x v) rest)) (suc s) to (map (messageOf x v′) (v′ .requests (suc s) to))
-        requests-sent = update2-two (λ (i j : ℕ). map (messageOf x v) (tagsAt x v i j)) (λ (i j : ℕ). map (messageOf x v′) (tagsAt x (withRequests v′ s p l) i j))
+        requests-sent =
+            update2-two (λ (i j : ℕ). map (messageOf x v) (tagsAt x v i j)) (λ (i j : ℕ). map (messageOf x v′) (tagsAt x (withRequests v′ s p l) i j))
             s p (map (messageOf x v) rest) (suc s) to (map (messageOf x v′) (v′ .requests (suc s) to))
             (ap (map (messageOf x v′)) (update2-other (v′ .requests) s p l (suc s) to (λ e. omega (arith, e .0))))
             (ap (λ (f : ℕ → ℕ → List ℕ). map (messageOf x v′) (f s p)) tags-left
@@ -166,7 +170,8 @@ module _ {x : Network} {v : View} {words : ℕ → ℕ} (S : Stands x v words) (
 
         pub landed-shows : came ≢ cameRefused → shown x (withRequests v′ s p l) words ≡ forwardStep (setup x) s p (shown x v words)
         unfolding shown
-        landed-shows c = shown-sent ∙ landed-sends x (shown x v words) s p (messageOf x v t) (map (messageOf x v) rest) shown-oldest to placed came c _ shown-arrives
+        landed-shows c =
+            shown-sent ∙ landed-sends x (shown x v words) s p (messageOf x v t) (map (messageOf x v) rest) shown-oldest to placed came c _ shown-arrives
 
 -- ---- above the engines
 pub forward-shows : {x : Network} {v : View} {words : ℕ → ℕ} → Stands x v words → (s p t : ℕ) (rest : List ℕ) → 0 < s → s < x .k → v .requests s p ≡ t ∷ rest

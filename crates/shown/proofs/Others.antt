@@ -17,7 +17,8 @@ use Rattle.view.specs.View.{View}
 use Rattle.machine.specs.Setup.{Setup, Message, WaitRecord, Reply, place}
 use Rattle.machine.specs.State.{State}
 use Rattle.machine.specs.Arrival.{Arrival, merged, appended, refused, arrive, oldestOf}
-use Rattle.machine.specs.Steps.{landed, nodeAt, forwardOldest, forwardStep, taken, serveOldest, moduleStep, answered, split, lowered, returnOldest, returnStep, collectOldest, collectStep}
+use Rattle.machine.specs.Steps.{landed, nodeAt, forwardOldest, forwardStep, taken, serveOldest, moduleStep, answered, split, lowered}
+use Rattle.machine.specs.Steps.{returnOldest, returnStep, collectOldest, collectStep}
 use Rattle.machine.specs.Run.{runEvents}
 use Rattle.shown.specs.Network.{Network, setup}
 use Rattle.shown.specs.Shown.{messageOf, replyOf, unissued, tagsAt, shown}
@@ -57,7 +58,8 @@ module _ (S : Setup) (st : State S) (p q : ℕ) (apart : q ≢ p) where
       go [] = refl
       go (m ∷ rest) = room (ltb (length (st .replies (S .k) p)) (S .Q)) m rest
 
-  answered-others : (s : ℕ) (t : Reply S) (rest : List (Reply S)) (r : Found (WaitRecord S)) → answered S st s p t rest r .replies (suc s) q ≡ st .replies (suc s) q
+  answered-others : (s : ℕ) (t : Reply S) (rest : List (Reply S)) (r : Found (WaitRecord S)) →
+      answered S st s p t rest r .replies (suc s) q ≡ st .replies (suc s) q
   unfolding answered
   answered-others s t rest absent = go (ltb (length (st .replies s (place S (t .tag) s))) (S .Q))
     where

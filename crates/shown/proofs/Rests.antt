@@ -52,7 +52,8 @@ module _ (x : Network) (v : View) (words : ℕ → ℕ) where
   unfolding shown
   shown-replies s p e = ap (map (replyOf x v)) (length-none (v .replies s p) e)
 
-  pub rests-moves : (what level position : ℕ) → levelFits (x .k) what level ≡ true → restsAt v what level position ≡ true → Moved x (single what level position) v words v words
+  pub rests-moves : (what level position : ℕ) → levelFits (x .k) what level ≡ true → restsAt v what level position ≡ true →
+      Moved x (single what level position) v words v words
   rests-moves what level position fits h = step-named (x .k) what level fits
       (λ e. issue-moves what level position refl refl e (forward-none (setup x) (shown x v words) 0 position
       (shown-requests 0 position (eqb-true _ _ (rw (e, issue-level (x .k) what level e fits) at h)))))

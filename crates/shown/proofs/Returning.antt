@@ -29,7 +29,8 @@ use Rattle.shown.proofs.Apart.{Apart, tagTimes, tags-apart, other-kind,
 use Rattle.shown.proofs.Carried.{state-eq, messages-framed, records-framed, records-updated, replies-updated, answers-kept, replies-pushed}
 
 -- the record that is taken, among the others
-taken-pair : (t : ℕ) (pairs : List Pair) {older : List Pair} {r : Pair} {younger : List Pair} → oldestPair t pairs ≡ found older r younger → pairs ≡ older ++ (r ∷ younger)
+taken-pair : (t : ℕ) (pairs : List Pair) {older : List Pair} {r : Pair} {younger : List Pair} → oldestPair t pairs ≡ found older r younger →
+    pairs ≡ older ++ (r ∷ younger)
 unfolding oldestPair
 taken-pair t pairs {older} {r} {younger} is =
     let f : First (λ (r : Pair). eqb (r .first) t) pairs (found older r younger) = rw is at (firstOf-is (λ (r : Pair). eqb (r .first) t) pairs) in f .0

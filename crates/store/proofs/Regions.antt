@@ -11,9 +11,11 @@ use Rattle.lists.specs.Choice.{choose, both}
 use Rattle.lists.specs.Table.{listBelow}
 use Rattle.lists.proofs.Tests.{test-cases, both-true}
 use Rattle.view.specs.View.{View}
-use Rattle.store.specs.Layout.{size, atK, atQ, atW, atCount, atEvery, atAnswered, atOrdered, atAccesses, atMerges, atRounds, atRequestLengths, atReplyLengths, atWaitLengths}
+use Rattle.store.specs.Layout.{size, atK, atQ, atW, atCount, atEvery, atAnswered, atOrdered, atAccesses, atMerges, atRounds}
+use Rattle.store.specs.Layout.{atRequestLengths, atReplyLengths, atWaitLengths}
 use Rattle.store.specs.Layout.{atOrder, atRequests, atReplies, atFirsts, atSeconds, atHeads, atFirstOperands, atSecondOperands}
-use Rattle.store.specs.Memory.{wordAt, columnAt, marksAt, bytesAt, queuesAt, requestsAt, buffersAt, codeOf, addressOf, pathOf, afterOf, fixedIn, carriedIn, orderIn, view, Becomes}
+use Rattle.store.specs.Memory.{wordAt, columnAt, marksAt, bytesAt, queuesAt, requestsAt, buffersAt, codeOf, addressOf, pathOf}
+use Rattle.store.specs.Memory.{afterOf, fixedIn, carriedIn, orderIn, view, Becomes}
 use Rattle.store.proofs.Grid.{grid-same}
 use Rattle.store.proofs.Columns.{tags-same}
 use Rattle.store.proofs.Held.{Reading, asTags, asRequests, heldAt, requests-held}
@@ -122,7 +124,8 @@ module _ (a n b l : ℕ) where
       one : (Still m m′ from size → f m′ ≡ f m) → f m′ ≡ choose (clear from size) (f m) (f m′)
       one h = test-cases (λ c. f m′ ≡ choose c (f m) (f m′)) (clear from size) (λ e. h (same from size e)) (λ _. refl)
 
-      two : (from′ size′ : ℕ) → (Still m m′ from size → Still m m′ from′ size′ → f m′ ≡ f m) → f m′ ≡ choose (both (clear from size) (clear from′ size′)) (f m) (f m′)
+      two : (from′ size′ : ℕ) → (Still m m′ from size → Still m m′ from′ size′ → f m′ ≡ f m) →
+          f m′ ≡ choose (both (clear from size) (clear from′ size′)) (f m) (f m′)
       two from′ size′ h =
           test-cases (λ c. f m′ ≡ choose c (f m) (f m′)) (both (clear from size) (clear from′ size′))
           (λ e. let g = both-true (clear from size) (clear from′ size′) e in h (same from size (g .0)) (same from′ size′ (g .1))) (λ _. refl)

@@ -136,7 +136,8 @@ module _ (m : List ℕ) (fits : length m ≡ size) (t : ℕ) (l : t < 256) where
         first =
             getD-set-other m₂ (atSecondOperands + t) (atFirstOperands + t) s 0 (omega arith) ∙ getD-set-same m₁ (atFirstOperands + t) f 0 (rw length-set (omega arith));
         second = getD-set-same m₂ (atSecondOperands + t) s 0 (rw (length-set, length-set) (omega arith));
-        away = λ k a b c. getD-set-other m₂ (atSecondOperands + t) k s 0 c ∙ getD-set-other m₁ (atFirstOperands + t) k f 0 b ∙ getD-set-other m (atHeads + t) k h 0 a;
+        away =
+            λ k a b c. getD-set-other m₂ (atSecondOperands + t) k s 0 c ∙ getD-set-other m₁ (atFirstOperands + t) k f 0 b ∙ getD-set-other m (atHeads + t) k h 0 a;
       }
 
   head-written : (h : ℕ) → Written m (set m (atHeads + t) h) t h (getD m (atFirstOperands + t) 0) (getD m (atSecondOperands + t) 0)
