@@ -1,1 +1,2 @@
+-- Events, drains, and which events name a step.
 pub mod Event

@@ -110,6 +110,12 @@ module _ {A : Type 0} where
   down-push zero f g t e h = rw e
   down-push (suc n) f g t e h = ap₂ (λ (x : A) (xs : List A). x ∷ xs) (h n (omega arith)) (down-push n f g t e (λ i l. h i (omega arith)))
 
+  -- the first goes, and the others are as they were
+  pub down-less : (n : ℕ) (f : ℕ → A) → 0 < n → downFrom (n - 1) f ≡ drop 1 (downFrom n f)
+  unfolding downFrom
+  down-less zero f h = absurd (omega arith)
+  down-less (suc n) f h = let e : suc n - 1 ≡ n = omega arith in rw e
+
   module _ (test : A → Bool) (n : ℕ) (f : ℕ → A) where
     pub lastOf-down-none : ((i : ℕ) → i < n → test (f i) ≡ false) → lastOf test (downFrom n f) ≡ absent
     lastOf-down-none h = lastOf-none test (all-down n f h)

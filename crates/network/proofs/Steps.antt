@@ -4,23 +4,20 @@ use mathlib.Core.Path.{_≡_, sym, _∙_}
 use mathlib.Core.Logic.{_≢_}
 use mathlib.Core.Bool.{Bool, true, false}
 use mathlib.Core.List.{List}
-use native.Mathlib.Decide.{ℕ-discrete}
 use native.Mathlib.Omega.{arith}
 use lib.Dec.{eqb}
 use lib.ListN.{length}
-use borrow.Author.Tests.{eq-eqb, lt-ltb, le-ltb}
-use Rattle.lists.proofs.Tests.{by-cases}
+use borrow.Author.Tests.{eqb-false, lt-ltb, le-ltb}
 use Rattle.event.specs.Event.{Event, levelFits}
-use Rattle.machine.proofs.Lists.{clash}
-use Rattle.shown.specs.Reached.{restsAt, single}
-use Rattle.shown.proofs.Levels.{issue-level, forward-level, module-level, return-level, collect-level, step-named, level-low}
-use Rattle.shown.proofs.Rests.{rests-moves}
+use Rattle.event.proofs.Steps.{issue-level, forward-level, module-level, return-level, collect-level, step-named, level-most}
 use Rattle.store.specs.Memory.{view}
+use Rattle.shown.specs.Reached.{restsAt, single}
+use Rattle.shown.proofs.Rests.{rests-moves}
 use Rattle.moves.specs.Moves.{wordsIn, Ready, ReadyWith, Moves, MovesWith}
 
 -- a length that is not tested zero
 filled : (n : ℕ) → eqb n 0 ≡ false → 0 < n
-filled n e = by-cases (ℕ-discrete n 0) (λ (z : n ≡ 0). clash (eq-eqb n 0 z) e) (λ (d : n ≢ 0). omega arith)
+filled n e = let d : n ≢ 0 = eqb-false n 0 e in omega arith
 
 -- ---- an event that names a step
 pub record Named (m words : List ℕ) (what level position : ℕ) : Type 0 where
@@ -33,11 +30,14 @@ module _ {m words : List ℕ} {what level position : ℕ} (N : Named m words wha
   ready-any = record { sized = N .ready .sized; network = N .ready .network; words = wordsIn words; stands = N .ready .stands }
 
   pub level-small : level < 5
-  level-small = level-low (view m .fixed .k) what level (rw (N .ready .stands .fits .k-is) (N .ready .stands .fits .ranges .k-most)) (N .fits)
+  level-small =
+      let few : view m .fixed .k ≤ 4 = rw (N .ready .stands .fits .k-is) (N .ready .stands .fits .ranges .k-most) in
+      omega (arith, level-most (view m .fixed .k) what level (N .fits))
 
   -- which kind it is where it is none of the first four
   pub last-kind : what ≢ 0 → what ≢ 1 → what ≢ 2 → what ≢ 3 → what ≡ 4
-  last-kind n0 n1 n2 n3 = step-named (view m .fixed .k) what level (N .fits) (λ e. absurd (n0 e)) (λ e. absurd (n1 e)) (λ e. absurd (n2 e)) (λ e. absurd (n3 e)) (λ e. e)
+  last-kind n0 n1 n2 n3 =
+      step-named (view m .fixed .k) what level (N .fits) (λ e. absurd (n0 e)) (λ e. absurd (n1 e)) (λ e. absurd (n2 e)) (λ e. absurd (n3 e)) (λ e. e)
 
   -- ---- the levels of a kind
   level-0 : what ≡ 0 → level ≡ 0
@@ -96,7 +96,8 @@ module _ {m words : List ℕ} {what level position : ℕ} (N : Named m words wha
   pub forwarded : what ≡ 1 → {m′ : List ℕ} → Moves (single 1 level position) m m′ → MovesWith (single what level position) m words m′ words
   forwarded is M = rw is (keeps-words M)
 
-  pub served : what ≡ 2 → {m′ words′ : List ℕ} → MovesWith (single 2 (view m .fixed .k) position) m words m′ words′ → MovesWith (single what level position) m words m′ words′
+  pub served : what ≡ 2 → {m′ words′ : List ℕ} → MovesWith (single 2 (view m .fixed .k) position) m words m′ words′ →
+      MovesWith (single what level position) m words m′ words′
   served is M = rw (is, level-2 is) M
 
   pub returned : what ≡ 3 → {m′ : List ℕ} → Moves (single 3 level position) m m′ → MovesWith (single what level position) m words m′ words

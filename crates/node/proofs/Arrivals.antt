@@ -10,27 +10,28 @@ use borrow.Author.Tests.{lt-ltb, le-ltb}
 use Rattle.lists.specs.Search.{Found, absent, found}
 use Rattle.lists.specs.Table.{downFrom}
 use Rattle.lists.specs.Count.{same, count}
+use Rattle.lists.specs.Pair.{Pair}
+use Rattle.lists.proofs.Tests.{clash}
 use Rattle.lists.proofs.Below.{length-below, length-down}
 use Rattle.lists.proofs.Tables.{update-same, update-other}
 use Rattle.lists.proofs.Counts.{same-yes, count-append}
+use Rattle.lists.proofs.Maps.{map-append, count-map}
 use Rattle.words.specs.Digits.{byteIn}
 use Rattle.operation.specs.Operation as operations
 use Rattle.operation.specs.declared.Operation.{Operation}
 use Rattle.operation.specs.declared.Merged.the-variants.{One, Never}
-use Rattle.machine.specs.Setup.{Message}
-use Rattle.machine.specs.Arrival as machine
-use Rattle.lists.specs.Pair.{Pair}
-use Rattle.view.specs.View.{View, withCarried}
-use Rattle.shown.specs.Network.{Network, setup}
-use Rattle.shown.specs.Shown.{operationIn, messageOf, recordOf}
-use Rattle.shown.proofs.Mapped.{map-append, count-map}
-use Rattle.shown.proofs.Carried.{messages-kept, records-kept}
 use Rattle.queue.specs.Queue.{tagsOf, pairIn, pairsOf, HeldTags, HeldPairs}
 use Rattle.queue.specs.declared.Tags.{Tags}
 use Rattle.queue.specs.declared.Pairs.{Pairs}
 use Rattle.queue.specs.declared.Place.the-variants.{At}
+use Rattle.view.specs.View.{View, withCarried}
 use Rattle.store.specs.Layout.{size}
 use Rattle.store.specs.Memory.{view, Becomes}
+use Rattle.machine.specs.Setup.{Message}
+use Rattle.machine.specs.Arrival as machine
+use Rattle.shown.specs.Network.{Network, setup}
+use Rattle.shown.specs.Shown.{operationIn, messageOf, recordOf}
+use Rattle.shown.proofs.Carried.{messages-kept, records-kept}
 use Rattle.node.specs.Node.{HeldNode, nodeIn, ApartAt, youngestTag, foundIn, AppendedTo, ArrivedAt}
 use Rattle.node.specs.declared.Node.{Node}
 use Rattle.node.specs.declared.Arrived.{Arrived}
@@ -39,13 +40,13 @@ use Rattle.node.proofs.Laws.{operation-carried, youngest-message, young
 
 -- ---- one outcome is not another
 appended-unmerged : Appended ≢ Merged
-appended-unmerged e = let z : _≡_ {A = ℕ} 0 1 = cc in omega arith
+appended-unmerged e = clash (cc)
 
 refused-unmerged : Refused ≢ Merged
-refused-unmerged e = let z : _≡_ {A = ℕ} 0 1 = cc in omega arith
+refused-unmerged e = clash (cc)
 
 appended-unrefused : Appended ≢ Refused
-appended-unrefused e = let z : _≡_ {A = ℕ} 0 1 = cc in omega arith
+appended-unrefused e = clash (cc)
 
 -- ---- one more at the end
 one-more-tag : (l k : Tags) (t : ℕ) → tagsOf l ≡ tagsOf k ++ (t ∷ []) → l .len ≡ suc (k .len)
@@ -112,7 +113,8 @@ module _ (x : Network) (v : View) (n : Node) (t : ℕ) where
       combined older f younger none = refl
       combined older f younger (some o) = rw (length-waiting x v n, le-ltb _ _ full)
 
-      met : (f : Found (Message (setup x))) → machine.meet (setup x) (nodeIn x v n) (messageOf x v t) f ≡ machine.append (setup x) (nodeIn x v n) (messageOf x v t)
+      met : (f : Found (Message (setup x))) →
+          machine.meet (setup x) (nodeIn x v n) (messageOf x v t) f ≡ machine.append (setup x) (nodeIn x v n) (messageOf x v t)
       met absent = refl
       met (found older f younger) = combined older f younger (setup x .merge (f .operation) (operationIn (v .carried t)))
 

@@ -5,22 +5,22 @@ use mathlib.Core.Bool.{false}
 use mathlib.Core.List.{List}
 use native.Mathlib.Omega.{arith}
 use lib.ListN.{length, getD, drop}
-use Rattle.machine.specs.Order.{replying}
+use Rattle.lists.proofs.Lists.{first-is}
 use Rattle.view.specs.View.{View, withReplies, withAnswer}
+use Rattle.store.specs.Memory.{view, Becomes}
+use Rattle.machine.specs.Order.{replying}
 use Rattle.shown.specs.Reached.{single}
 use Rattle.shown.proofs.Apart.{other-kind, unanswered, oldest-replying}
 use Rattle.shown.proofs.Reaching.{stands-apart}
 use Rattle.shown.proofs.Collecting.{collect-shows}
 use Rattle.shown.proofs.Events.{collect-moves}
-use Rattle.store.specs.Memory.{view, Becomes}
 use Rattle.moves.specs.Moves.{Ready, Moves}
-use Rattle.replies.proofs.Oldest.{oldest-first}
 
 -- a request whose reply stands in a queue is not answered
 pub collected-open : {m m₁ : List ℕ} → Ready m → (e t : ℕ) → 0 < length (view m .replies 0 e) → t ≡ getD (view m .replies 0 e) 0 0 →
     Becomes m₁ (withReplies (view m) 0 e (drop 1 (view m .replies 0 e))) → view m₁ .answered t ≡ false
 collected-open {m} R e t some oldest popped =
-    let there = oldest-replying (R .network) (view m) 0 e (oldest-first (view m .replies 0 e) t some oldest) in
+    let there = oldest-replying (R .network) (view m) 0 e (first-is (view m .replies 0 e) t some oldest) in
     rw (popped .holds) (unanswered (R .network) (view m) (stands-apart (R .stands)) t (replying 0 e) there (other-kind _ _ (λ z. omega arith)))
 
 pub collected : {m m₁ m₂ : List ℕ} (e t : ℕ) → 0 < length (view m .replies 0 e) → t ≡ getD (view m .replies 0 e) 0 0 →
@@ -29,5 +29,6 @@ collected {m} {m₁} {m₂} e t some oldest popped marked =
     let is : view m₂ ≡ withAnswer (withReplies (view m) 0 e (drop 1 (view m .replies 0 e))) t = marked .holds ∙ ap (λ (v : View). withAnswer v t) (popped .holds) in
     record {
       sized = marked .sized;
-      moved = λ x words _. rw is (collect-moves 4 0 e refl refl refl (collect-shows x (view m) words e t (drop 1 (view m .replies 0 e)) (oldest-first (view m .replies 0 e) t some oldest)));
+      moved =
+          λ x words _. rw is (collect-moves 4 0 e refl refl refl (collect-shows x (view m) words e t (drop 1 (view m .replies 0 e)) (first-is (view m .replies 0 e) t some oldest)));
     }

@@ -95,7 +95,8 @@ module _ (m : List ℕ) (level t : ℕ) (bottom : level ≡ 0) where
       let one : length (view m .order) + length (t ∷ []) ≤ 256 = rw (tags-zero (view m .fixed .path) (view m .waits) level t bottom) at room in
       omega (arith, one)
 
-  pub put-one : {m′ : List ℕ} → Becomes m′ (withOrder (view m) (t ∷ [])) → Becomes m′ (withOrder (view m) (tagsFor (view m .fixed .path) (view m .waits) level t))
+  pub put-one : {m′ : List ℕ} → Becomes m′ (withOrder (view m) (t ∷ [])) →
+      Becomes m′ (withOrder (view m) (tagsFor (view m .fixed .path) (view m .waits) level t))
   put-one b = rw (tags-zero (view m .fixed .path) (view m .waits) level t bottom) b
 
 -- ---- the order list grows

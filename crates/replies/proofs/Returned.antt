@@ -8,30 +8,30 @@ use lib.ListN.{length, getD, take, drop, length-append, length-take, length-drop
 use lib.Dec.{eqb}
 use borrow.Author.Tests.{lt-ltb, le-ltb}
 use Rattle.lists.specs.Search.{Found, firstOf}
+use Rattle.lists.specs.Pair.{Pair}
 use Rattle.lists.proofs.Tests.{by-cases}
 use Rattle.lists.proofs.Tables.{update2-level}
 use Rattle.lists.proofs.Below.{length-below}
 use Rattle.lists.proofs.Searches.{First, firstOf-is}
+use Rattle.lists.proofs.Lists.{first-is}
 use Rattle.operation.specs.Operation.{applied}
 use Rattle.operation.specs.declared.Operation.{Operation}
 use Rattle.operation.specs.declared.Words.{Words}
 use Rattle.wiring.specs.Wiring.{positionOn}
-use Rattle.lists.specs.Pair.{Pair}
-use Rattle.view.specs.View.{View, withReplies, withCarried, withWaits}
 use Rattle.queue.specs.Queue.{pairIn, pairsOf, noPair, foundAt}
 use Rattle.queue.specs.declared.Pairs.{Pairs}
 use Rattle.queue.specs.declared.Place.{Place}
 use Rattle.queue.specs.declared.Place.the-variants.{At, Nowhere}
+use Rattle.view.specs.View.{View, withReplies, withCarried, withWaits}
+use Rattle.store.specs.Layout.{size}
+use Rattle.store.specs.Memory.{view, Becomes}
 use Rattle.shown.specs.Shown.{operationIn, valued, oldestPair}
 use Rattle.shown.specs.Reached.{single}
 use Rattle.shown.proofs.Reaching.{stands-sound}
 use Rattle.shown.proofs.Returning.{return-lowers, return-lower-full, return-splits, return-split-full}
 use Rattle.shown.proofs.Events.{return-moves}
-use Rattle.store.specs.Layout.{size}
-use Rattle.store.specs.Memory.{view, Becomes}
 use Rattle.moves.specs.Moves.{Moves}
 use Rattle.replies.specs.Returns.{Lowered, SplitOff}
-use Rattle.replies.proofs.Oldest.{oldest-first}
 
 -- as many as the machine's buffer has
 pub length-loaded : (waits : Pairs) {l : List Pair} → pairsOf waits ≡ l → waits .len ≡ length l
@@ -47,14 +47,16 @@ module _ (m : List ℕ) (level s p t to : ℕ) (up : level ≡ suc s) (on : to �
     pub target-kept : view m₁ .replies s to ≡ view m .replies s to
     target-kept = rw (popped .holds) (update2-level (view m .replies) level p (drop 1 (view m .replies level p)) s to (omega arith))
 
-    pub lower-room : {m₂ : List ℕ} → length (view m .replies s to) < view m .fixed .q → Becomes m₂ (withReplies (view m₁) s to (view m₁ .replies s to ++ (t ∷ []))) →
+    pub lower-room : {m₂ : List ℕ} → length (view m .replies s to) < view m .fixed .q →
+        Becomes m₂ (withReplies (view m₁) s to (view m₁ .replies s to ++ (t ∷ []))) →
         Lowered (view m) s p t m₂
     lower-room {m₂} room pushed =
         let is : view m₂ ≡ withReplies (view m₁) s to (view m .replies s to ++ (t ∷ [])) = rw target-kept at (pushed .holds) in
         record { sized = pushed .sized; lowered = rw (← on, lt-ltb _ _ room, ← up) (is ∙ ap (λ (v : View). withReplies v s to (view m .replies s to ++ (t ∷ []))) (popped .holds)) }
 
 -- ---- the second tag u of the record at place i is answered
-pub answered-room : (m : List ℕ) {m₁ : List ℕ} (s to u : ℕ) (x : Words) → Becomes m₁ (withCarried (view m) u x) → length (view m .replies s to) < 8 → length (view m₁ .replies s to) < 8
+pub answered-room : (m : List ℕ) {m₁ : List ℕ} (s to u : ℕ) (x : Words) → Becomes m₁ (withCarried (view m) u x) → length (view m .replies s to) < 8 →
+    length (view m₁ .replies s to) < 8
 answered-room m s to u x set room = rw (set .holds) room
 
 module _ (m : List ℕ) (level s p t to u : ℕ) (pairs : List Pair) (i : ℕ) (up : level ≡ suc s) (second : u ≡ getD pairs i noPair .second)
@@ -101,14 +103,16 @@ module _ (m : List ℕ) (level p t : ℕ) (up : 0 < level) (low : level ≤ view
   at-level = omega arith
 
   is : view m .replies (suc s) p ≡ t ∷ drop 1 (view m .replies (suc s) p)
-  is = rw at-level (oldest-first (view m .replies level p) t some oldest)
+  is = rw at-level (first-is (view m .replies level p) t some oldest)
 
   module _ (pairs : List Pair) (loaded : pairs ≡ view m .waits level p) where
-    looked : (place : Place) → foundAt pairs place ≡ firstOf (λ (r : Pair). eqb (r .first) t) pairs → oldestPair t (view m .waits (suc s) p) ≡ foundAt pairs place
+    looked : (place : Place) → foundAt pairs place ≡ firstOf (λ (r : Pair). eqb (r .first) t) pairs →
+        oldestPair t (view m .waits (suc s) p) ≡ foundAt pairs place
     unfolding oldestPair
     looked place f = rw (at-level, ← loaded) (sym f)
 
-    pub lower-returns : {m′ : List ℕ} → foundAt pairs Nowhere ≡ firstOf (λ (r : Pair). eqb (r .first) t) pairs → Lowered (view m) (level - 1) p t m′ → Moves (single 3 level p) m m′
+    pub lower-returns : {m′ : List ℕ} → foundAt pairs Nowhere ≡ firstOf (λ (r : Pair). eqb (r .first) t) pairs → Lowered (view m) (level - 1) p t m′ →
+        Moves (single 3 level p) m m′
     lower-returns f L = record {
       sized = L .sized;
       moved = λ x words S. by-cases (decLt (length (view m .replies s (positionOn (view m .fixed .path t) s))) (view m .fixed .q))
@@ -121,7 +125,8 @@ module _ (m : List ℕ) (level p t : ℕ) (up : 0 < level) (low : level ≤ view
           (looked Nowhere f) (positionOn (view m .fixed .path t) s) refl (omega (arith, S .fits .q-is)))));
     }
 
-    pub split-returns : {m′ : List ℕ} (i : ℕ) → foundAt pairs (At i) ≡ firstOf (λ (r : Pair). eqb (r .first) t) pairs → SplitOff (view m) (level - 1) p t pairs i m′ → Moves (single 3 level p) m m′
+    pub split-returns : {m′ : List ℕ} (i : ℕ) → foundAt pairs (At i) ≡ firstOf (λ (r : Pair). eqb (r .first) t) pairs →
+        SplitOff (view m) (level - 1) p t pairs i m′ → Moves (single 3 level p) m m′
     split-returns i f L =
         let u = getD pairs i noPair .second in
         let to = positionOn (view m .fixed .path u) s in

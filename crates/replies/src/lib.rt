@@ -7,7 +7,7 @@ use store::queues;
 use store::shape;
 use store::tags;
 ghost use mathlib.Core.Path.{_≡_};
-ghost use Prim.Native.Nat.{_+_, _-_, _≤_, _<_};
+ghost use Prim.Native.Nat.{_-_, _≤_, _<_};
 ghost use lib.ListN.{length, getD, set};
 ghost use Rattle.operation.specs.Operation.{applied};
 ghost use Rattle.shown.specs.Shown.{operationIn};

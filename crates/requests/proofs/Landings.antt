@@ -45,10 +45,12 @@ refused-unmerged e f = omega (arith, ap (λ (o : Outcome). mark (cameOf o)) (sym
 -- ---- a node by its queue and its wait buffer
 module _ (v : View) (s p : ℕ) where
   -- a queue that stays, or a wait buffer
-  requests-idle : (waits : ℕ → ℕ → List Pair) (carried : ℕ → Words) (merges : ℕ) → filled v (v .requests) waits carried merges ≡ filled v (update2 (v .requests) s p (v .requests s p)) waits carried merges
+  requests-idle : (waits : ℕ → ℕ → List Pair) (carried : ℕ → Words) (merges : ℕ) →
+      filled v (v .requests) waits carried merges ≡ filled v (update2 (v .requests) s p (v .requests s p)) waits carried merges
   requests-idle waits carried merges = ap (λ (f : ℕ → ℕ → List ℕ). filled v f waits carried merges) (sym (update2-idle (v .requests) s p))
 
-  waits-idle : (requests : ℕ → ℕ → List ℕ) (carried : ℕ → Words) (merges : ℕ) → filled v requests (v .waits) carried merges ≡ filled v requests (update2 (v .waits) s p (v .waits s p)) carried merges
+  waits-idle : (requests : ℕ → ℕ → List ℕ) (carried : ℕ → Words) (merges : ℕ) →
+      filled v requests (v .waits) carried merges ≡ filled v requests (update2 (v .waits) s p (v .waits s p)) carried merges
   waits-idle requests carried merges = ap (λ (f : ℕ → ℕ → List Pair). filled v requests f carried merges) (sym (update2-idle (v .waits) s p))
 
 -- ---- the node as it is loaded, with the rooms

@@ -10,15 +10,16 @@ use lib.Dec.{leb, ltb}
 use lib.ListN.{length, getD, drop}
 use borrow.Author.Tests.{leb-true}
 use Rattle.lists.specs.Choice.{choose, both}
+use Rattle.lists.proofs.Lists.{first-is}
 use Rattle.lists.proofs.Tables.{update2-other}
-use Rattle.wiring.specs.Wiring.{positionOn}
+use Rattle.lists.proofs.Tests.{test-clash, both-true}
 use Rattle.event.specs.Event.{Event}
+use Rattle.wiring.specs.Wiring.{positionOn}
+use Rattle.view.specs.View.{Fixed, View, withRequests}
+use Rattle.store.specs.Memory.{view, Becomes}
 use Rattle.machine.specs.State.{State}
 use Rattle.machine.specs.Steps.{forwardStep}
 use Rattle.machine.specs.Run.{runEvents}
-use Rattle.machine.proofs.StepsMove.{both-first, both-second}
-use Rattle.machine.proofs.Lists.{clash}
-use Rattle.view.specs.View.{Fixed, View, withRequests}
 use Rattle.shown.specs.Network.{Network, setup}
 use Rattle.shown.specs.Shown.{tagsAt, shown}
 use Rattle.shown.specs.Landing.{Came, cameMerged, cameAppended, cameRefused, Landed}
@@ -29,24 +30,18 @@ use Rattle.shown.proofs.Rooms.{requests-few, waits-few}
 use Rattle.shown.proofs.Events.{issue-is, forward-is}
 use Rattle.shown.proofs.Forwards.{oldest-first, landed-fixed, landed-rounds, forward-apart, forward-full, forward-stays, forward-shows}
 use Rattle.shown.proofs.Issues.{issue-shows}
-use Rattle.store.specs.Memory.{view, Becomes}
 use Rattle.node.specs.Node.{ApartAt}
 use Rattle.moves.specs.Moves.{Ready, Moves, wentOn, Went}
 
--- a list by its oldest
-oldest-is : (l : List ℕ) (t : ℕ) → 0 < length l → t ≡ getD l 0 0 → l ≡ t ∷ drop 1 l
-oldest-is [] t h e = absurd (omega arith)
-oldest-is (u ∷ l) t h e = ap (λ (u : ℕ). u ∷ l) (sym e)
-
 both-at-most : (a b c d : ℕ) → both (leb a b) (leb c d) ≡ true → (a ≤ b) × (c ≤ d)
-both-at-most a b c d e = (leb-true a b (both-first (leb a b) (leb c d) e), leb-true c d (both-second (leb a b) (leb c d) e))
+both-at-most a b c d e = let h = both-true (leb a b) (leb c d) e in (leb-true a b (h .0), leb-true c d (h .1))
 
 went-moved : (c : Came) → wentOn c ≡ true → c ≢ cameRefused
-went-moved c e d = clash e (ap wentOn d)
+went-moved c e d = test-clash e (ap wentOn d)
 
 went-not : (c : Came) → wentOn c ≡ false → c ≡ cameRefused
-went-not cameMerged e = clash refl e
-went-not cameAppended e = clash refl e
+went-not cameMerged e = test-clash refl e
+went-not cameAppended e = test-clash refl e
 went-not cameRefused e = refl
 
 -- "k 1 to 4; queue room Q 1 to 4; wait room W 0 to 8", and the counts of a run are small
@@ -88,7 +83,8 @@ module _ {m : List ℕ} {es : List Event} {s p t to : ℕ} (G : Going m es s p t
   going-few = rw add-one (requests-few (G .ready .stands) s to, waits-few (G .ready .stands) (suc s) to)
 
   -- neither the queue nor the wait buffer has room
-  pub full-moves : {r : Bool} → r ≡ both (leb (view m .fixed .q) (length (view m .requests (s + 1) to))) (leb (view m .fixed .w) (length (view m .waits (s + 1) to)))
+  pub full-moves : {r : Bool} →
+      r ≡ both (leb (view m .fixed .q) (length (view m .requests (s + 1) to))) (leb (view m .fixed .w) (length (view m .waits (s + 1) to)))
       → r ≡ true → Moves es m m
   full-moves full taken = record {
     sized = G .ready .sized;
@@ -156,7 +152,7 @@ module _ {m : List ℕ} {e t to : ℕ} where
   issue-goes R h is at = record {
     ready = R;
     rest = drop 1 (view m .requests 0 e);
-    is = oldest-is (view m .requests 0 e) t h is;
+    is = first-is (view m .requests 0 e) t h is;
     at = at;
     inside = λ x words S. S .fits .ranges .k-least;
     picks = λ x st. issue-is (setup x) 0 0 e st refl;
@@ -182,7 +178,7 @@ module _ {m : List ℕ} {s p t to : ℕ} where
   forward-goes R l h is at = record {
     ready = R;
     rest = drop 1 (view m .requests s p);
-    is = oldest-is (view m .requests s p) t h is;
+    is = first-is (view m .requests s p) t h is;
     at = at;
     inside = λ x words S. omega (arith, S .fits .k-is);
     picks = λ x st. forward-is (setup x) 1 s p st refl;

@@ -14,25 +14,26 @@ pub record Filled (f : ℕ → ℕ) (old l : List ℕ) (i : ℕ) : Type 0 where
   pub sized : length l ≡ length old
   pub holds : l ≡ listBelow i f ++ drop i old
 
-module _ (f : ℕ → ℕ) (old : List ℕ) where
+module _ {f : ℕ → ℕ} {old : List ℕ} where
   pub filled-none : Filled f old old 0
   unfolding listBelow
   filled-none = record { sized = refl; holds = refl }
 
-  module _ (l : List ℕ) (i : ℕ) (so-far : Filled f old l i) where
-    pub filled-more : i < length old → (v : ℕ) → v ≡ f i → Filled f old (set l i v) (i + 1)
+  module _ {l : List ℕ} {i : ℕ} (so-far : Filled f old l i) where
+    pub filled-more : i < length old → {v : ℕ} → v ≡ f i → Filled f old (set l i v) (i + 1)
     unfolding listBelow
-    filled-more room v e = record {
+    filled-more room {v} e = record {
       sized = length-set l i v ∙ so-far .sized;
       holds =
           rw (so-far .holds, drop-cons old i 0 room, add-one, e)
-          (set-at (listBelow i f) (getD old i 0) (drop (suc i) old) (f i) i (length-below i f) ∙ sym (append-assoc (listBelow i f) (f i ∷ []) (drop (suc i) old)));
+          (set-at (listBelow i f) (getD old i 0) (drop (suc i) old) (f i) i (length-below i f)
+          ∙ sym (append-assoc (listBelow i f) (f i ∷ []) (drop (suc i) old)));
     }
 
-    pub filled-all : (n : ℕ) → i ≡ n → l ≡ over (listBelow n f) old
-    filled-all n e = so-far .holds ∙ rw (e, length-below n f)
+    pub filled-all : {n : ℕ} → i ≡ n → l ≡ over (listBelow n f) old
+    filled-all {n} e = so-far .holds ∙ rw (e, length-below n f)
 
 -- the elements of a list, all of them
-pub filled-list : (new old l : List ℕ) (i : ℕ) → Filled (λ j. getD new j 0) old l i → i ≡ length new → l ≡ over new old
-filled-list new old l i so-far e =
-    filled-all (λ j. getD new j 0) old l i so-far (length new) e ∙ ap (λ (a : List ℕ). over a old) (sym (below-is 0 (length new) (λ j. getD new j 0) new refl (λ j h. refl)))
+pub filled-list : (new : List ℕ) {old l : List ℕ} {i : ℕ} → Filled (λ j. getD new j 0) old l i → i ≡ length new → l ≡ over new old
+filled-list new {old} so-far e =
+    filled-all so-far e ∙ ap (λ (a : List ℕ). over a old) (sym (below-is 0 (length new) (λ j. getD new j 0) new refl (λ j h. refl)))

@@ -1,1 +1,2 @@
+-- How a lent slice is filled.
 pub mod Filling

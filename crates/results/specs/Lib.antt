@@ -1,1 +1,2 @@
+-- What a run leaves in lent memory.
 pub mod Copied

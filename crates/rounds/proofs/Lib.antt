@@ -1,3 +1,4 @@
+-- A row, the rows of a round, and the rounds of a drain.
 pub mod Rows
 pub mod Whole
 pub mod Draining

@@ -4,29 +4,31 @@ use Prim.Native.Nat.{ℕ, _+_, _≤_, _<_, _^_}
 use mathlib.Core.Path.{_≡_, refl, sym, ap, subst, _∙_}
 use mathlib.Core.Logic.{_≢_}
 use mathlib.Core.Bool.{true}
-use mathlib.Core.List.{List, [], _∷_}
+use mathlib.Core.List.{List, []}
 use native.Mathlib.Decide.{decLe}
 use native.Mathlib.Omega.{arith}
 use lib.Dec.{ltb}
 use lib.ListN.{length}
 use Rattle.lists.specs.Choice.{choose}
 use Rattle.lists.proofs.Tests.{by-cases, test-cases}
+use Rattle.lists.proofs.Lists.{length-some}
 use Rattle.words.specs.Digits.{lengthIn, FirstBusy, Above}
 use Rattle.words.proofs.Digits.{digit-none}
 use Rattle.event.specs.Event.{Event, levelFits}
+use Rattle.event.proofs.Steps.{modules-fit, module-level}
 use Rattle.wiring.proofs.Shifts.{width-small}
-use Rattle.machine.specs.Run.{row}
 use Rattle.view.specs.View.{Fixed, View}
+use Rattle.store.specs.Layout.{size}
+use Rattle.store.specs.Memory.{view, RowOf}
+use Rattle.machine.specs.Run.{row}
 use Rattle.shown.specs.Network.{Network}
 use Rattle.shown.specs.Reached.{Stands, Moved, single, restsAt}
-use Rattle.shown.proofs.Levels.{modules-fit, module-level, row-named}
+use Rattle.shown.proofs.Levels.{row-named}
 use Rattle.shown.proofs.Reaching.{moved-stands}
 use Rattle.shown.proofs.Below.{busy-below}
 use Rattle.shown.proofs.Moving.{row-none, row-onward}
 use Rattle.shown.proofs.Rests.{row-skip}
 use Rattle.shown.proofs.Others.{Alike, row-others}
-use Rattle.store.specs.Layout.{size}
-use Rattle.store.specs.Memory.{view, RowOf}
 use Rattle.moves.specs.Moves.{wordsIn, Ready, ReadyWith, Moves, MovesWith}
 
 -- ---- the queues that a kind of step takes from
@@ -39,10 +41,6 @@ empty-rests what level position v = test-cases
     (ltb what 3)
     (λ t e. rw (t, e))
     (λ t e. rw (t, e))
-
-holds-some : {A : Type 0} (l : List A) → l ≢ [] → 0 < length l
-holds-some [] n = absurd (n refl)
-holds-some (a ∷ l) n = omega arith
 
 -- ---- the lengths that are left
 -- the first position from p on with a queue that is not empty; 16 where there is none
@@ -128,7 +126,8 @@ module _ {I : Type 0} {what level : ℕ} {m₀ : List ℕ} {w₀ : I → ℕ →
     -- b is the next position with something to move
     module _ {b : ℕ} (next : NextFull (queuesOf what (view m) level) p b) where
       passed : (q : ℕ) → p ≤ q → q ≤ b → Brings (row what level q) m₀ w₀ m w
-      passed q l h x i S = row-skip what level p (fits-network S) (A .moved x i S) q l (λ j f g. empty-rests what level j (view m) (next .empty j f (omega arith)))
+      passed q l h x i S =
+          row-skip what level p (fits-network S) (A .moved x i S) q l (λ j f g. empty-rests what level j (view m) (next .empty j f (omega arith)))
 
       -- there is none
       row-rests : 16 ≤ b → Brings (row what level (2 ^ view m₀ .fixed .k)) m₀ w₀ m w
@@ -136,7 +135,7 @@ module _ {I : Type 0} {what level : ℕ} {m₀ : List ℕ} {w₀ : I → ℕ →
 
       module _ (h : b < 16) where
         pub row-full : (b < 16) × (0 < length (queuesOf what (view m) level b))
-        row-full = (h, holds-some (queuesOf what (view m) level b) (next .full h))
+        row-full = (h, length-some (queuesOf what (view m) level b) (next .full h))
 
         row-below : b < 2 ^ view m₀ .fixed .k
         row-below = rw (A .stood .fits .k-is) (busy-below row-stands level b (ltb what 3) (row-full .1))
@@ -199,12 +198,23 @@ abbrev pub Alone : (what level : ℕ) (m₀ m : List ℕ) (left : ℕ) → Type 
 Alone what level m₀ m left = Going {I = ℕ → ℕ} what level m₀ (λ words. words) m (λ words. words) left
 
 module _ {what level : ℕ} {m₀ : List ℕ} where
-  pub alone-begins : {left : ℕ} → levelFits (view m₀ .fixed .k) what level ≡ true → Ready m₀ → RowOf (queuesOf what (view m₀) level) left → Alone what level m₀ m₀ left
+  pub alone-begins : {left : ℕ} → levelFits (view m₀ .fixed .k) what level ≡ true → Ready m₀ → RowOf (queuesOf what (view m₀) level) left →
+      Alone what level m₀ m₀ left
   alone-begins f R lengths = record { at = 0; row = row-begins f (R .sized) (R .network) (R .words) (R .stands); ahead = ahead-all lengths }
 
   module _ {left : ℕ} {m : List ℕ} (A : Alone what level m₀ m left) where
     pub alone-ready : Ready m
     alone-ready = record { sized = A .row .sized; network = A .row .network; words = A .row .which; stands = row-stands (A .row) }
+
+    -- what the step at the first position with something to move asks for; above the engines its level too
+    pub alone-asks : {b : ℕ} → FirstBusy left b → Ready m × ((b < 16) × (0 < length (queuesOf what (view m) level b)))
+    alone-asks first = (alone-ready, going-full A first)
+
+    pub alone-asks-at : (Inside : ℕ → Type 0) {b : ℕ} → FirstBusy left b → (0 < level) × Inside (view m₀ .fixed .k) →
+        Ready m × (((0 < level) × Inside (view m .fixed .k) × (b < 16)) × (0 < length (queuesOf what (view m) level b)))
+    alone-asks-at Inside first l =
+        let full = going-full A first in
+        (alone-ready, ((l .0, subst Inside (sym (row-same (A .row))) (l .1), full .0), full .1))
 
     pub alone-rests : left ≡ 0 → Moves (row what level (2 ^ view m₀ .fixed .k)) m₀ m
     alone-rests z = record { sized = A .row .sized; moved = going-rests A z }
@@ -218,7 +228,8 @@ pub record Served (level : ℕ) (m₀ words₀ m words : List ℕ) (left : ℕ) 
   pub going : Going {I = Unit {0}} 2 level m₀ (λ _. wordsIn words₀) m (λ _. wordsIn words) left
 
 module _ {level : ℕ} {m₀ words₀ : List ℕ} where
-  pub served-begins : {left : ℕ} → level ≡ view m₀ .fixed .k → ReadyWith m₀ words₀ → RowOf (view m₀ .requests level) left → Served level m₀ words₀ m₀ words₀ left
+  pub served-begins : {left : ℕ} → level ≡ view m₀ .fixed .k → ReadyWith m₀ words₀ → RowOf (view m₀ .requests level) left →
+      Served level m₀ words₀ m₀ words₀ left
   served-begins l R lengths = record {
     words-sized = R .words-sized;
     going = record {
@@ -242,7 +253,8 @@ module _ {level : ℕ} {m₀ words₀ : List ℕ} where
       pub served-full : (b < 16) × (0 < length (view m .requests (view m .fixed .k) b))
       served-full = rw (row-same (A .going .row), ← at-modules) (going-full (A .going) first)
 
-      pub served-goes : {left′ : ℕ} → Above left b left′ → (m′ words′ : List ℕ) → MovesWith (single 2 (view m .fixed .k) b) m words m′ words′ → Served level m₀ words₀ m′ words′ left′
+      pub served-goes : {left′ : ℕ} → Above left b left′ → (m′ words′ : List ℕ) → MovesWith (single 2 (view m .fixed .k) b) m words m′ words′ →
+          Served level m₀ words₀ m′ words′ left′
       served-goes over m′ words′ M = record {
         words-sized = M .words-sized;
         going = going-on (A .going) first over (M .sized) (λ x i S.

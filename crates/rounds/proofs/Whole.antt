@@ -5,14 +5,15 @@ use mathlib.Core.List.{List, _++_}
 use native.Mathlib.Omega.{arith}
 use lib.ListN.{length}
 use Rattle.event.specs.Event.{Event}
-use Rattle.machine.specs.Run.{row, rowsUp, rowsDown, round}
+use Rattle.event.proofs.Steps.{issues-fit, forwards-fit, modules-fit, returns-fit, collects-fit}
 use Rattle.view.specs.View.{Fixed}
+use Rattle.store.specs.Memory.{view}
+use Rattle.machine.specs.Run.{row, rowsUp, rowsDown, round}
 use Rattle.shown.specs.Network.{Network}
 use Rattle.shown.specs.Reached.{Stands, Moved}
-use Rattle.shown.proofs.Levels.{AllFit, issues-fit, forwards-fit, modules-fit, returns-fit, collects-fit, row-named, up-named, down-named}
+use Rattle.shown.proofs.Levels.{AllFit, row-named, up-named, down-named}
 use Rattle.shown.proofs.Reaching.{moved-stands}
 use Rattle.shown.proofs.Moving.{moved-none, moved-append, up-none, up-onward, down-none, down-onward}
-use Rattle.store.specs.Memory.{view}
 use Rattle.moves.specs.Moves.{wordsIn, Ready, ReadyWith, Moves, MovesWith}
 use Rattle.rounds.proofs.Rows.{levels-within}
 
@@ -113,7 +114,8 @@ pub record Going (es : List Event) (m₀ words₀ m words : List ℕ) : Type 0 w
 module _ (events : ℕ → List Event) (fit : (k : ℕ) → 0 < k → AllFit k (events k)) where
   pub with-stand : {m words m′ words′ : List ℕ} → MovesWith (events (view m .fixed .k)) m words m′ words′
       → (x : Network) → Stands x (view m) (wordsIn words) → Stands x (view m′) (wordsIn words′)
-  with-stand {m} M x S = moved-stands S (subst (λ k. AllFit k (events (view m .fixed .k))) (S .fits .k-is) (fit (view m .fixed .k) (levels-within S .0))) (M .moved x S)
+  with-stand {m} M x S =
+      moved-stands S (subst (λ k. AllFit k (events (view m .fixed .k))) (S .fits .k-is) (fit (view m .fixed .k) (levels-within S .0))) (M .moved x S)
 
   going-onward : {es : List Event} {m₀ words₀ m words m′ words′ : List ℕ} → Going es m₀ words₀ m words → MovesWith (events (view m .fixed .k)) m words m′ words′
       → Going (es ++ events (view m₀ .fixed .k)) m₀ words₀ m′ words′
@@ -142,7 +144,8 @@ serving k = returning k ++ row 2 k (2 ^ k)
 abbrev forwarding : ℕ → List Event
 forwarding k = serving k ++ rowsDown 1 (k - 1) (2 ^ k)
 
-pub round-collects : {m words m′ : List ℕ} → ReadyWith m words → Moves (row 4 0 (2 ^ view m .fixed .k)) m m′ → Going (collecting (view m .fixed .k)) m words m′ words
+pub round-collects : {m words m′ : List ℕ} → ReadyWith m words → Moves (row 4 0 (2 ^ view m .fixed .k)) m m′ →
+    Going (collecting (view m .fixed .k)) m words m′ words
 round-collects R M = going-onward (λ k. row 4 0 (2 ^ k)) (λ k h. row-named k 4 0 (2 ^ k) (collects-fit k))
     (record { ready = R; same = refl; stands = λ x S. S; moves = record { sized = R .sized; words-sized = R .words-sized; moved = λ x S. moved-none } })
     (moves-with M (R .words-sized))
@@ -152,7 +155,8 @@ module _ {m₀ words₀ m words m′ : List ℕ} where
       → Going (returning (view m₀ .fixed .k)) m₀ words₀ m′ words
   round-returns A M = going-onward (λ k. rowsUp 3 k (2 ^ k)) (λ k h. up-named k 3 k (2 ^ k) (returns-fit k)) A (moves-with M (A .ready .words-sized))
 
-  pub round-modules : {words′ : List ℕ} → Going (returning (view m₀ .fixed .k)) m₀ words₀ m words → MovesWith (row 2 (view m .fixed .k) (2 ^ view m .fixed .k)) m words m′ words′
+  pub round-modules : {words′ : List ℕ} → Going (returning (view m₀ .fixed .k)) m₀ words₀ m words →
+      MovesWith (row 2 (view m .fixed .k) (2 ^ view m .fixed .k)) m words m′ words′
       → Going (serving (view m₀ .fixed .k)) m₀ words₀ m′ words′
   round-modules A M = going-onward (λ k. row 2 k (2 ^ k)) (λ k h. row-named k 2 k (2 ^ k) (modules-fit k)) A M
 

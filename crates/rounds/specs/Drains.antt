@@ -17,7 +17,8 @@ pub record Drained (allowed : ℕ) (m words m′ words′ : List ℕ) : Type 0 w
   pub sized : length m′ ≡ size
   pub words-sized : length words′ ≡ 256
   pub fixed : view m′ .fixed ≡ view m .fixed
-  pub drained : (x : Network) → Stands x (view m) (wordsIn words) → shownRun x (view m′) (wordsIn words′) ≡ drainRun (setup x) allowed (shownRun x (view m) (wordsIn words))
+  pub drained : (x : Network) → Stands x (view m) (wordsIn words) →
+      shownRun x (view m′) (wordsIn words′) ≡ drainRun (setup x) allowed (shownRun x (view m) (wordsIn words))
   pub stands : (x : Network) → Stands x (view m) (wordsIn words) → Stands x (view m′) (wordsIn words′)
 
 -- "every request is answered"

@@ -1,1 +1,2 @@
+-- What a drain leaves, and when every request is answered.
 pub mod Drains

@@ -8,19 +8,14 @@ use native.Mathlib.Omega.{arith}
 use lib.Dec.{ltb}
 use borrow.Author.Tests.{lt-ltb, le-ltb}
 use Rattle.lists.specs.Choice.{choose}
-use Rattle.lists.proofs.Tests.{by-cases}
+use Rattle.lists.proofs.Tests.{by-cases, test-fails}
+use Rattle.view.specs.View.{View}
 use Rattle.machine.specs.Run.{isAnswered, answeredBelow, allAnswered}
 use Rattle.machine.specs.Order.{OnePlace}
 use Rattle.machine.proofs.Drain.{below-answered}
-use Rattle.view.specs.View.{View}
 use Rattle.shown.specs.Network.{Network, setup, Fits}
 use Rattle.shown.specs.Shown.{shown}
 use Rattle.shown.proofs.Apart.{tags-apart, answered-below}
-
--- what no test comes to
-not-true : (b : Bool) → ¬ (b ≡ true) → b ≡ false
-not-true true n = absurd (n refl)
-not-true false n = refl
 
 module _ (x : Network) (v : View) (words : ℕ → ℕ) where
   shown-answered : (t : ℕ) → isAnswered (setup x) (shown x v words .answers t) ≡ v .answered t
@@ -40,12 +35,13 @@ module _ (x : Network) (v : View) (words : ℕ → ℕ) where
     pub all-answered : ((t : ℕ) → v .answered t ≡ v .fixed .every t) → allAnswered (setup x) (shown x v words) ≡ true
     all-answered h = answered-all (x .R) (λ t l. h t ∙ F .every-is t ∙ lt-ltb t (x .R) l)
 
-    pub not-all-answered : OnePlace (setup x) (shown x v words) → ¬ ((t : ℕ) → v .answered t ≡ v .fixed .every t) → allAnswered (setup x) (shown x v words) ≡ false
-    not-all-answered P n = not-true (allAnswered (setup x) (shown x v words)) (λ e. n (λ t. marks e t ∙ sym (F .every-is t)))
+    pub not-all-answered : OnePlace (setup x) (shown x v words) → ¬ ((t : ℕ) → v .answered t ≡ v .fixed .every t) →
+        allAnswered (setup x) (shown x v words) ≡ false
+    not-all-answered P n = test-fails (allAnswered (setup x) (shown x v words)) (λ e. n (λ t. marks e t ∙ sym (F .every-is t)))
       where
         marks : allAnswered (setup x) (shown x v words) ≡ true → (t : ℕ) → v .answered t ≡ ltb t (x .R)
         marks e t = by-cases (decLt t (x .R))
             (λ (l : t < x .R). sym (shown-answered t) ∙ below-answered (setup x) (shown x v words) (x .R) e t l ∙ sym (lt-ltb t (x .R) l))
             (λ (m : ¬ (t < x .R)).
-            not-true (v .answered t) (λ a. m (answered-below x v (tags-apart x v words P) t a))
+            test-fails (v .answered t) (λ a. m (answered-below x v (tags-apart x v words P) t a))
             ∙ sym (le-ltb t (x .R) (let z : x .R ≤ t = omega arith in z)))

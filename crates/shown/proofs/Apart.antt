@@ -11,16 +11,17 @@ use native.Mathlib.Omega.{arith}
 use Rattle.lists.specs.Choice.{choose}
 use Rattle.lists.specs.Search.{All, found}
 use Rattle.lists.specs.Count.{count}
+use Rattle.lists.specs.Pair.{Pair}
 use Rattle.lists.proofs.Tests.{by-cases}
+use Rattle.lists.proofs.Maps.{count-map}
+use Rattle.lists.proofs.Counts.{counted-all, oldest-counted, found-counted}
+use Rattle.view.specs.View.{View}
 use Rattle.machine.specs.Setup.{Setup}
 use Rattle.machine.specs.State.{State}
 use Rattle.machine.specs.Run.{isAnswered}
 use Rattle.machine.specs.Order.{Where, requested, waiting, replying, answered, times, OnPath, OnePlace}
-use Rattle.lists.specs.Pair.{Pair}
-use Rattle.view.specs.View.{View}
 use Rattle.shown.specs.Network.{Network, setup}
 use Rattle.shown.specs.Shown.{tagsAt, shown, oldestPair}
-use Rattle.shown.proofs.Mapped.{count-map, counted-all, oldest-counted, found-counted}
 
 -- ---- two places are the same or not
 two : {A : Type 0} (f : ℕ → ℕ → A) (l p l′ p′ : ℕ) → (f l p ≡ f l′ p′ → (l ≡ l′) × (p ≡ p′)) → Dec (f l p ≡ f l′ p′)
@@ -127,10 +128,6 @@ module _ (x : Network) where
   }
 
   module _ (v : View) (A : Apart v) where
-    -- in two places at once there is none
-    pub alone : (t : ℕ) (w w′ : Where (setup x)) → 0 < tagTimes v t w → 0 < tagTimes v t w′ → w ≡ w′
-    alone t w w′ h g = by-cases (where-discrete w w′) (λ (e : w ≡ w′). e) (λ (n : w ≢ w′). absurd (omega (arith, A .elsewhere t w′ w g n)))
-
     -- ---- tags in queues and buffers are of requests
     pub waits-below : (s p : ℕ) → All (λ (r : Pair). r .second < x .R) (v .waits s p)
     waits-below s p = counted-all (λ (r : Pair). r .second) (λ t. t < x .R) (v .waits s p) (λ t h. A .below t (waiting s p) h)
@@ -154,6 +151,7 @@ module _ (x : Network) where
     pub oldest-replying : {t : ℕ} {rest : List ℕ} → v .replies s p ≡ t ∷ rest → 0 < tagTimes v t (replying s p)
     oldest-replying is = oldest-counted (λ (u : ℕ). u) is
 
-    pub pair-waiting : (t : ℕ) {older : List Pair} {r : Pair} {younger : List Pair} → oldestPair t (v .waits s p) ≡ found older r younger → 0 < tagTimes v (r .second) (waiting s p)
+    pub pair-waiting : (t : ℕ) {older : List Pair} {r : Pair} {younger : List Pair} → oldestPair t (v .waits s p) ≡ found older r younger →
+        0 < tagTimes v (r .second) (waiting s p)
     unfolding oldestPair
     pair-waiting t is = found-counted (λ (r : Pair). r .second) _ (v .waits s p) is

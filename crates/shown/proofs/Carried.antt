@@ -9,16 +9,18 @@ use native.Mathlib.Omega.{arith}
 use Rattle.lists.specs.Choice.{choose}
 use Rattle.lists.specs.Table.{update2}
 use Rattle.lists.specs.Count.{count}
+use Rattle.lists.specs.Pair.{Pair}
+use Rattle.lists.proofs.Tests.{clash}
 use Rattle.lists.proofs.Every.{all-map}
 use Rattle.lists.proofs.Tables.{update-same, update-other, update2-same, update2-other, update2-unique, update2-map}
+use Rattle.lists.proofs.Maps.{map-same, map-append}
+use Rattle.lists.proofs.Counts.{counted-all}
 use Rattle.operation.specs.declared.Words.{Words}
+use Rattle.view.specs.View.{View, withCarried, withRequests}
 use Rattle.machine.specs.Setup.{Setup, Message, WaitRecord, Reply}
 use Rattle.machine.specs.State.{State}
-use Rattle.lists.specs.Pair.{Pair}
-use Rattle.view.specs.View.{View, withCarried, withRequests}
 use Rattle.shown.specs.Network.{Network, setup}
 use Rattle.shown.specs.Shown.{unissued, messageOf, recordOf, replyOf, answerOf, tagsAt}
-use Rattle.shown.proofs.Mapped.{map-same, map-append, counted-all}
 
 -- states with the same parts are the same
 pub state-eq : {S : Setup} (a b : State S) → a .requests ≡ b .requests → a .waits ≡ b .waits → a .replies ≡ b .replies → a .words ≡ b .words →
@@ -27,12 +29,14 @@ state-eq a b p q r w o n c m = λ i. record { requests = p i; waits = q i; repli
 
 -- ---- two views of the same requests, that agree on what the tags of a list carry
 module _ (x : Network) (v v′ : View) where
-  pub messages-same : v′ .fixed ≡ v .fixed → (l : List ℕ) → ((u : ℕ) → 0 < count (λ (t : ℕ). t) u l → v′ .carried u ≡ v .carried u) → map (messageOf x v′) l ≡ map (messageOf x v) l
+  pub messages-same : v′ .fixed ≡ v .fixed → (l : List ℕ) → ((u : ℕ) → 0 < count (λ (t : ℕ). t) u l → v′ .carried u ≡ v .carried u) →
+      map (messageOf x v′) l ≡ map (messageOf x v) l
   messages-same f l h =
       map-same (messageOf x v) (messageOf x v′)
       (counted-all (λ (t : ℕ). t) (λ u. messageOf x v′ u ≡ messageOf x v u) l (λ u z. rw (f, h u z)))
 
-  pub records-same : (l : List Pair) → ((u : ℕ) → 0 < count (λ (r : Pair). r .second) u l → v′ .carried u ≡ v .carried u) → map (recordOf x v′) l ≡ map (recordOf x v) l
+  pub records-same : (l : List Pair) → ((u : ℕ) → 0 < count (λ (r : Pair). r .second) u l → v′ .carried u ≡ v .carried u) →
+      map (recordOf x v′) l ≡ map (recordOf x v) l
   records-same l h =
       map-same (recordOf x v) (recordOf x v′)
       (all-map (λ r e. rw e) (counted-all (λ (r : Pair). r .second) (λ u. v′ .carried u ≡ v .carried u) l h))
@@ -49,10 +53,6 @@ module _ (x : Network) (v v′ : View) where
       go : (u : ℕ) (b : Bool) → v .answered u ≡ b → choose b (some (v′ .carried u .first)) none ≡ choose b (some (v .carried u .first)) none
       go u true e = rw (h u e)
       go u false e = refl
-
-  pub records-all : (f : ℕ → ℕ → List Pair) → ((s p u : ℕ) → 0 < count (λ (r : Pair). r .second) u (f s p) → v′ .carried u ≡ v .carried u) →
-      _≡_ {A = ℕ → ℕ → List (WaitRecord (setup x))} (λ s p. map (recordOf x v′) (f s p)) (λ s p. map (recordOf x v) (f s p))
-  records-all f h = fun-ext (λ s. fun-ext (λ p. records-same (f s p) (h s p)))
 
 -- ---- one tag carries something else: what stands in lists without that tag is shown as it was
 module _ (x : Network) (v : View) (t : ℕ) (c : Words) where
@@ -73,7 +73,7 @@ module _ (x : Network) (v : View) (t : ℕ) (c : Words) where
   replies-kept l z = replies-same x v (withCarried v t c) l (carried-kept (λ (u : ℕ). u) l z)
 
   pub answers-kept : v .answered t ≡ false → answerOf x (withCarried v t c) ≡ answerOf x v
-  answers-kept n = answers-same x v (withCarried v t c) refl (λ u e. update-other (v .carried) t c (λ d. (let z : _≡_ {A = ℕ} 0 1 = cc in omega arith)))
+  answers-kept n = answers-same x v (withCarried v t c) refl (λ u e. update-other (v .carried) t c (λ d. clash (cc)))
 
   -- by level and position, where t stands in none of the lists
   pub messages-framed : (f : ℕ → ℕ → List ℕ) → ((s p : ℕ) → count (λ (u : ℕ). u) t (f s p) ≡ 0) →

@@ -26,7 +26,8 @@ abbrev acts-of : List Event → List Act
 acts-of es = map event es
 
 module _ (S : Setup) where
-  acts-run : (es : List Event) (st : State S) (c : ℕ) → runActs S (acts-of es) (record { state = st; rounds = c }) ≡ record { state = runEvents S es st; rounds = c }
+  acts-run : (es : List Event) (st : State S) (c : ℕ) →
+      runActs S (acts-of es) (record { state = st; rounds = c }) ≡ record { state = runEvents S es st; rounds = c }
   unfolding runActs runAct runEvents
   acts-run [] st c = refl
   acts-run (e ∷ es) st c = acts-run es (step S e st) c
@@ -75,13 +76,15 @@ module _ {x : Network} {v : View} {words : ℕ → ℕ} where
   drain-few S n =
       rw (S .reached .reached) (omega (arith, drain-from (setup x) (stands-lawful S) (S .reached .from) (S .reached .events) (S .reached .named) n (v .rounds), moves-few (S .fits .ranges)))
 
-  pub rounds-few : Stands x v words → (n m : ℕ) (v₁ : View) (words₁ : ℕ → ℕ) → drainRun (setup x) n (shownRun x v words) ≡ drainRun (setup x) m (shownRun x v₁ words₁) → v₁ .rounds ≤ v .rounds + 2560
+  pub rounds-few : Stands x v words → (n m : ℕ) (v₁ : View) (words₁ : ℕ → ℕ) →
+      drainRun (setup x) n (shownRun x v words) ≡ drainRun (setup x) m (shownRun x v₁ words₁) → v₁ .rounds ≤ v .rounds + 2560
   rounds-few S n m v₁ words₁ e = omega (arith, drain-few S n, ap (λ (r : Ran (setup x)). r .rounds) e, drain-counts (setup x) m (shownRun x v₁ words₁))
 
   -- ---- every request is answered
   module _ (S : Stands x v words) (h : allAnswered (setup x) (shown x v words) ≡ true) where
     reached-run : runActs (setup x) (acts-of (S .reached .events)) (atStart (setup x) (S .reached .from)) ≡ record { state = shown x v words; rounds = 0 }
-    reached-run = acts-run (setup x) (S .reached .events) (start (setup x) (S .reached .from)) 0 ∙ ap (λ (st : State (setup x)). record { state = st; rounds = 0 }) (sym (S .reached .reached))
+    reached-run =
+        acts-run (setup x) (S .reached .events) (start (setup x) (S .reached .from)) 0 ∙ ap (λ (st : State (setup x)). record { state = st; rounds = 0 }) (sym (S .reached .reached))
 
     event-rests : (e : Event) → levelFits (x .k) (e .what) (e .level) ≡ true → step (setup x) e (shown x v words) ≡ shown x v words
     unfolding runActs runAct

@@ -23,12 +23,14 @@ module _ (x : Network) (e : ℕ) where
   first-from : (n t : ℕ) → t ≤ firstFrom (x .engineOf) e n t
   unfolding firstFrom
   first-from zero t = omega arith
-  first-from (suc n) t = test-cases (λ b. t ≤ choose b t (firstFrom (x .engineOf) e n (suc t))) (eqb (x .engineOf t) e) (λ _. omega arith) (λ _. omega (arith, first-from n (suc t)))
+  first-from (suc n) t =
+      test-cases (λ b. t ≤ choose b t (firstFrom (x .engineOf) e n (suc t))) (eqb (x .engineOf t) e) (λ _. omega arith) (λ _. omega (arith, first-from n (suc t)))
 
   first-within : (n t : ℕ) → firstFrom (x .engineOf) e n t ≤ t + n
   unfolding firstFrom
   first-within zero t = omega arith
-  first-within (suc n) t = test-cases (λ b. choose b t (firstFrom (x .engineOf) e n (suc t)) ≤ t + suc n) (eqb (x .engineOf t) e) (λ _. omega arith) (λ _. omega (arith, first-within n (suc t)))
+  first-within (suc n) t =
+      test-cases (λ b. choose b t (firstFrom (x .engineOf) e n (suc t)) ≤ t + suc n) (eqb (x .engineOf t) e) (λ _. omega arith) (λ _. omega (arith, first-within n (suc t)))
 
   first-own : (n t : ℕ) → firstFrom (x .engineOf) e n t < t + n → x .engineOf (firstFrom (x .engineOf) e n t) ≡ e
   unfolding firstFrom
@@ -75,4 +77,5 @@ module _ (x : Network) (e : ℕ) where
 
   -- so a queue that has the next request alone stands for all from t on
   pub next-unissued : (t : ℕ) → unissued x e (choose (ltb (nextOf x e t) (x .R)) (nextOf x e t ∷ []) []) ≡ ofEngine x e t
-  next-unissued t = ltb-cases (λ b. unissued x e (choose b (nextOf x e t ∷ []) []) ≡ ofEngine x e t) (nextOf x e t) (x .R) (λ h. sym (next-some t h)) (λ h. sym (next-none t h))
+  next-unissued t =
+      ltb-cases (λ b. unissued x e (choose b (nextOf x e t ∷ []) []) ≡ ofEngine x e t) (nextOf x e t) (x .R) (λ h. sym (next-some t h)) (λ h. sym (next-none t h))

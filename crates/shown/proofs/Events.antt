@@ -37,13 +37,15 @@ module _ {x : Network} {v v′ : View} {words words′ : ℕ → ℕ} (what leve
   pub issue-moves : what ≡ 0 → shown x v′ words′ ≡ issueStep (setup x) position (shown x v words) → Moved x (single what level position) v words v′ words′
   issue-moves e h = record { shows = h ∙ sym (issue-is (setup x) what level position (shown x v words) e); fixed = fixed; rounds = rounds }
 
-  pub forward-moves : what ≡ 1 → shown x v′ words′ ≡ forwardStep (setup x) level position (shown x v words) → Moved x (single what level position) v words v′ words′
+  pub forward-moves : what ≡ 1 → shown x v′ words′ ≡ forwardStep (setup x) level position (shown x v words) →
+      Moved x (single what level position) v words v′ words′
   forward-moves e h = record { shows = h ∙ sym (forward-is (setup x) what level position (shown x v words) e); fixed = fixed; rounds = rounds }
 
   pub module-moves : what ≡ 2 → shown x v′ words′ ≡ moduleStep (setup x) position (shown x v words) → Moved x (single what level position) v words v′ words′
   module-moves e h = record { shows = h ∙ sym (module-is (setup x) what level position (shown x v words) e); fixed = fixed; rounds = rounds }
 
-  pub return-moves : what ≡ 3 → shown x v′ words′ ≡ returnStep (setup x) (level - 1) position (shown x v words) → Moved x (single what level position) v words v′ words′
+  pub return-moves : what ≡ 3 → shown x v′ words′ ≡ returnStep (setup x) (level - 1) position (shown x v words) →
+      Moved x (single what level position) v words v′ words′
   return-moves e h = record { shows = h ∙ sym (return-is (setup x) what level position (shown x v words) e); fixed = fixed; rounds = rounds }
 
   pub collect-moves : what ≡ 4 → shown x v′ words′ ≡ collectStep (setup x) position (shown x v words) → Moved x (single what level position) v words v′ words′

@@ -47,11 +47,13 @@ module _ (x : Network) (v : View) where
 
 module _ (x : Network) (v : View) (words : ℕ → ℕ) (F : Fits x (v .fixed)) (S : Sound (setup x) (shown x v words)) where
   -- the oldest message at a module
-  module-oldest : (p : ℕ) {t : ℕ} {rest : List ℕ} → v .requests (x .k) p ≡ t ∷ rest → shown x v words .requests (x .k) p ≡ messageOf x v t ∷ map (messageOf x v) rest
+  module-oldest : (p : ℕ) {t : ℕ} {rest : List ℕ} → v .requests (x .k) p ≡ t ∷ rest →
+      shown x v words .requests (x .k) p ≡ messageOf x v t ∷ map (messageOf x v) rest
   unfolding shown
   module-oldest p is = ap (map (messageOf x v)) (tags-above x v (x .k) p (F .ranges .k-least) ∙ is)
 
-  pub order-room : (p t : ℕ) (rest : List ℕ) → v .requests (x .k) p ≡ t ∷ rest → length (v .order) + length (tagsFor (v .fixed .path) (v .waits) (x .k) t) ≤ x .R
+  pub order-room : (p t : ℕ) (rest : List ℕ) → v .requests (x .k) p ≡ t ∷ rest →
+      length (v .order) + length (tagsFor (v .fixed .path) (v .waits) (x .k) t) ≤ x .R
   unfolding shown
   order-room p t rest is =
       let A : Apart x v = tags-apart x v words (S .onePlace) in

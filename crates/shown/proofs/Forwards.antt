@@ -8,32 +8,25 @@ use native.Mathlib.Omega.{arith}
 use lib.ListN.{length, length-map}
 use Rattle.lists.specs.Table.{update2}
 use Rattle.lists.specs.Count.{same, count, Distinct}
+use Rattle.lists.specs.Pair.{Pair}
 use Rattle.lists.proofs.Tests.{by-cases}
-use Rattle.lists.proofs.Tables.{update2-same, update2-other, update2-ind, update2-unique}
+use Rattle.lists.proofs.Tables.{update2-same, update2-other, update2-unique, update2-two}
 use Rattle.lists.proofs.Counts.{same-yes, same-no, count-append}
+use Rattle.lists.proofs.Maps.{count-map}
 use Rattle.wiring.specs.Wiring.{positionOn}
+use Rattle.view.specs.View.{View, withRequests}
 use Rattle.machine.specs.Setup.{Reply, place}
 use Rattle.machine.specs.Arrival.{arrive}
 use Rattle.machine.specs.Order.{Where, requested, waiting, replying, answered}
 use Rattle.machine.specs.Steps.{sent, nodeAt, forwardStep}
-use Rattle.lists.specs.Pair.{Pair}
-use Rattle.view.specs.View.{View, withRequests}
 use Rattle.shown.specs.Network.{Network, setup, ofEngine}
 use Rattle.shown.specs.Shown.{unissued, messageOf, recordOf, replyOf, answerOf, tagsAt, shown}
 use Rattle.shown.specs.Landing.{Came, cameRefused, nodeOf, arrivalOf, mergesAfter, withNode, Landed}
 use Rattle.shown.specs.Reached.{Stands}
-use Rattle.shown.proofs.Mapped.{count-map}
 use Rattle.shown.proofs.Apart.{tagTimes, other-kind, request-elsewhere, oldest-requested}
 use Rattle.shown.proofs.Carried.{state-eq, messages-same, records-same, replies-same, answers-same, tagsIn, tags-updated}
 use Rattle.shown.proofs.Reaching.{stands-apart}
 use Rattle.shown.proofs.Arrivals.{arrive-full, refused-rests, landed-sends}
-
--- a table that is changed at two places
-update2-two : {A : Type 0} (f g : ℕ → ℕ → A) (s p : ℕ) (a : A) (s′ p′ : ℕ) (b : A) → g s′ p′ ≡ b → g s p ≡ a →
-    ((i j : ℕ) → ¬ ((i ≡ s) × (j ≡ p)) → ¬ ((i ≡ s′) × (j ≡ p′)) → g i j ≡ f i j) → g ≡ update2 (update2 f s p a) s′ p′ b
-update2-two f g s p a s′ p′ b here′ here others =
-    update2-unique (update2 f s p a) g s′ p′ b here′
-    (λ i j n. update2-ind f s p a (λ i j y. ¬ ((i ≡ s′) × (j ≡ p′)) → g i j ≡ y) (λ _. here) (λ i j m n. others i j m n) i j n)
 
 -- the oldest of a queue is the first of its tags
 pub oldest-first : (x : Network) (v : View) (s p t : ℕ) (rest : List ℕ) → v .requests s p ≡ t ∷ rest → (behind : List ℕ) × (tagsAt x v s p ≡ t ∷ behind)
@@ -81,7 +74,8 @@ module _ {x : Network} {v : View} {words : ℕ → ℕ} (S : Stands x v words) (
       (omega (arith, same-yes t, elsewhere (requested (suc s) to) (onward to), elsewhere (waiting (suc s) to) (other-kind _ _ (λ d. omega arith)))))
       (λ (n : t ≢ u). go (tagTimes x v u (requested (suc s) to)) refl n))
     where
-      go : (n : ℕ) → tagTimes x v u (requested (suc s) to) ≡ n → t ≢ u → same t u + (tagTimes x v u (requested (suc s) to) + tagTimes x v u (waiting (suc s) to)) ≤ 1
+      go : (n : ℕ) → tagTimes x v u (requested (suc s) to) ≡ n → t ≢ u →
+          same t u + (tagTimes x v u (requested (suc s) to) + tagTimes x v u (waiting (suc s) to)) ≤ 1
       go zero e n = omega (arith, same-no n, stands-apart S .once u (waiting (suc s) to))
       go (suc m) e n =
           omega (
@@ -101,7 +95,8 @@ module _ {x : Network} {v : View} {words : ℕ → ℕ} (S : Stands x v words) (
     shown-oldest = ap (map (messageOf x v)) is
 
     -- neither the queue nor the wait buffer has room
-    pub forward-full : x .Q ≤ length (v .requests (suc s) to) → x .W ≤ length (v .waits (suc s) to) → shown x v words ≡ forwardStep (setup x) s p (shown x v words)
+    pub forward-full : x .Q ≤ length (v .requests (suc s) to) → x .W ≤ length (v .waits (suc s) to) →
+        shown x v words ≡ forwardStep (setup x) s p (shown x v words)
     unfolding shown
     forward-full h g = refused-rests x (shown x v words) s p (messageOf x v t) (map (messageOf x v) rest) shown-oldest to placed
         (arrive-full (setup x) (nodeAt (setup x) (shown x v words) (suc s) to) (messageOf x v t)
@@ -131,7 +126,8 @@ module _ {x : Network} {v : View} {words : ℕ → ℕ} (S : Stands x v words) (
           more = ap (count (λ (w : ℕ). w) u) is
 
       waits-sent : (λ (i j : ℕ). map (recordOf x v′) (v′ .waits i j)) ≡ update2 (λ (i j : ℕ). map (recordOf x v) (v .waits i j)) (suc s) to (map (recordOf x v′) (v′ .waits (suc s) to))
-      waits-sent = update2-unique (λ (i j : ℕ). map (recordOf x v) (v .waits i j)) (λ (i j : ℕ). map (recordOf x v′) (v′ .waits i j)) (suc s) to (map (recordOf x v′) (v′ .waits (suc s) to)) refl
+      waits-sent =
+          update2-unique (λ (i j : ℕ). map (recordOf x v) (v .waits i j)) (λ (i j : ℕ). map (recordOf x v′) (v′ .waits i j)) (suc s) to (map (recordOf x v′) (v′ .waits (suc s) to)) refl
           (λ i j n. ap (λ (y : View). map (recordOf x v′) (y .waits i j)) (L .changes)
           ∙ ap (map (recordOf x v′)) (update2-other (v .waits) (suc s) to _ i j n)
           ∙ records-same x v v′ (v .waits i j) (kept (waiting i j) (other-kind _ _ (λ e. omega arith)) (other-kind _ _ (λ e. omega arith))))
@@ -155,7 +151,8 @@ module _ {x : Network} {v : View} {words : ℕ → ℕ} (S : Stands x v words) (
 
         requests-sent : (λ (i j : ℕ). map (messageOf x v′) (tagsAt x (withRequests v′ s p l) i j)) ≡
             update2 (update2 (λ (i j : ℕ). map (messageOf x v) (tagsAt x v i j)) s p (map (messageOf x v) rest)) (suc s) to (map (messageOf x v′) (v′ .requests (suc s) to))
-        requests-sent = update2-two (λ (i j : ℕ). map (messageOf x v) (tagsAt x v i j)) (λ (i j : ℕ). map (messageOf x v′) (tagsAt x (withRequests v′ s p l) i j))
+        requests-sent =
+            update2-two (λ (i j : ℕ). map (messageOf x v) (tagsAt x v i j)) (λ (i j : ℕ). map (messageOf x v′) (tagsAt x (withRequests v′ s p l) i j))
             s p (map (messageOf x v) rest) (suc s) to (map (messageOf x v′) (v′ .requests (suc s) to))
             (ap (map (messageOf x v′)) (update2-other (v′ .requests) s p l (suc s) to (λ e. omega (arith, e .0))))
             (ap (λ (f : ℕ → ℕ → List ℕ). map (messageOf x v′) (f s p)) tags-left
@@ -173,7 +170,8 @@ module _ {x : Network} {v : View} {words : ℕ → ℕ} (S : Stands x v words) (
 
         pub landed-shows : came ≢ cameRefused → shown x (withRequests v′ s p l) words ≡ forwardStep (setup x) s p (shown x v words)
         unfolding shown
-        landed-shows c = shown-sent ∙ landed-sends x (shown x v words) s p (messageOf x v t) (map (messageOf x v) rest) shown-oldest to placed came c _ shown-arrives
+        landed-shows c =
+            shown-sent ∙ landed-sends x (shown x v words) s p (messageOf x v t) (map (messageOf x v) rest) shown-oldest to placed came c _ shown-arrives
 
 -- ---- above the engines
 pub forward-shows : {x : Network} {v : View} {words : ℕ → ℕ} → Stands x v words → (s p t : ℕ) (rest : List ℕ) → 0 < s → s < x .k → v .requests s p ≡ t ∷ rest

@@ -1,4 +1,4 @@
-pub mod Mapped
+-- The law of each step: the view after the changes made in code shows the step of the definition.
 pub mod Apart
 pub mod Carried
 pub mod Rely

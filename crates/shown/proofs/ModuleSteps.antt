@@ -1,5 +1,5 @@
 -- The module step on the view is the machine's.
-use Prim.Native.Nat.{ℕ, _+_, _≤_, _<_}
+use Prim.Native.Nat.{ℕ, _≤_, _<_}
 use mathlib.Core.Path.{_≡_, refl, sym, ap, _∙_}
 use mathlib.Core.List.{List, [], _∷_, _++_, map}
 use native.Mathlib.Omega.{arith}
@@ -11,11 +11,11 @@ use Rattle.lists.proofs.Tables.{update2-ind}
 use Rattle.lists.proofs.Counts.{same-yes}
 use Rattle.operation.specs.Operation.{applied}
 use Rattle.operation.specs.declared.Words.{Words}
+use Rattle.view.specs.View.{View, withRequests, withReplies, withCarried, withOrder, withAccess}
 use Rattle.machine.specs.Setup.{Message}
 use Rattle.machine.specs.Steps.{serveOldest, moduleStep}
 use Rattle.machine.specs.Order.{requested, waiting, replying}
 use Rattle.machine.specs.Sound.{Sound}
-use Rattle.view.specs.View.{View, withRequests, withReplies, withCarried, withOrder, withAccess}
 use Rattle.shown.specs.Network.{Network, setup, Fits}
 use Rattle.shown.specs.Shown.{operationIn, valued, messageOf, replyOf, tagsAt, tagsFor, shown}
 use Rattle.shown.proofs.Apart.{Apart, tagTimes, tags-apart, other-kind, request-elsewhere, oldest-requested, unanswered}

@@ -40,17 +40,20 @@ module _ {x : Network} where
 
   module _ {v v₁ v₂ : View} {words words₁ words₂ : ℕ → ℕ} (what : ℕ) where
     -- one position more
-    pub row-onward : (level p : ℕ) → Moved x (row what level p) v words v₁ words₁ → Moved x (record { what = what; level = level; position = p } ∷ []) v₁ words₁ v₂ words₂
+    pub row-onward : (level p : ℕ) → Moved x (row what level p) v words v₁ words₁ →
+        Moved x (record { what = what; level = level; position = p } ∷ []) v₁ words₁ v₂ words₂
         → Moved x (row what level (p + 1)) v words v₂ words₂
     unfolding row
     row-onward level p f g = rw add-one (moved-append f g)
 
     -- ---- rows at levels that rise, and that fall: one level more
-    pub up-onward : (n N : ℕ) → Moved x (rowsUp what n N) v words v₁ words₁ → Moved x (row what (n + 1) N) v₁ words₁ v₂ words₂ → Moved x (rowsUp what (n + 1) N) v words v₂ words₂
+    pub up-onward : (n N : ℕ) → Moved x (rowsUp what n N) v words v₁ words₁ → Moved x (row what (n + 1) N) v₁ words₁ v₂ words₂ →
+        Moved x (rowsUp what (n + 1) N) v words v₂ words₂
     unfolding rowsUp
     up-onward n N f g = rw add-one (moved-append f (rw add-one at g))
 
-    pub down-onward : (n N : ℕ) → 0 < n → Moved x (row what n N) v words v₁ words₁ → Moved x (rowsDown what (n - 1) N) v₁ words₁ v₂ words₂ → Moved x (rowsDown what n N) v words v₂ words₂
+    pub down-onward : (n N : ℕ) → 0 < n → Moved x (row what n N) v words v₁ words₁ → Moved x (rowsDown what (n - 1) N) v₁ words₁ v₂ words₂ →
+        Moved x (rowsDown what n N) v words v₂ words₂
     unfolding rowsDown
     down-onward zero N h f g = absurd (omega arith)
     down-onward (suc n) N h f g = moved-append f (let z : suc n - 1 ≡ n = omega arith in rw z at g)

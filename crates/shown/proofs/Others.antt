@@ -10,17 +10,19 @@ use lib.ListN.{length}
 use Rattle.lists.specs.Choice.{choose}
 use Rattle.lists.specs.Search.{Found, absent, found}
 use Rattle.lists.proofs.Tables.{update2-level, update2-position}
+use Rattle.lists.proofs.Maps.{map-none}
 use Rattle.event.specs.Event.{levelFits}
+use Rattle.event.proofs.Steps.{issue-level, module-level, return-level, collect-level, step-named}
+use Rattle.view.specs.View.{View}
 use Rattle.machine.specs.Setup.{Setup, Message, WaitRecord, Reply, place}
 use Rattle.machine.specs.State.{State}
 use Rattle.machine.specs.Arrival.{Arrival, merged, appended, refused, arrive, oldestOf}
-use Rattle.machine.specs.Steps.{landed, nodeAt, forwardOldest, forwardStep, taken, serveOldest, moduleStep, answered, split, lowered, returnOldest, returnStep, collectOldest, collectStep}
+use Rattle.machine.specs.Steps.{landed, nodeAt, forwardOldest, forwardStep, taken, serveOldest, moduleStep, answered, split, lowered}
+use Rattle.machine.specs.Steps.{returnOldest, returnStep, collectOldest, collectStep}
 use Rattle.machine.specs.Run.{runEvents}
-use Rattle.view.specs.View.{View}
 use Rattle.shown.specs.Network.{Network, setup}
 use Rattle.shown.specs.Shown.{messageOf, replyOf, unissued, tagsAt, shown}
 use Rattle.shown.specs.Reached.{single, Moved}
-use Rattle.shown.proofs.Levels.{issue-level, module-level, return-level, collect-level, step-named}
 use Rattle.shown.proofs.Events.{issue-is, forward-is, module-is, return-is, collect-is}
 
 -- ---- the machine's steps at another position of the row
@@ -56,7 +58,8 @@ module _ (S : Setup) (st : State S) (p q : ℕ) (apart : q ≢ p) where
       go [] = refl
       go (m ∷ rest) = room (ltb (length (st .replies (S .k) p)) (S .Q)) m rest
 
-  answered-others : (s : ℕ) (t : Reply S) (rest : List (Reply S)) (r : Found (WaitRecord S)) → answered S st s p t rest r .replies (suc s) q ≡ st .replies (suc s) q
+  answered-others : (s : ℕ) (t : Reply S) (rest : List (Reply S)) (r : Found (WaitRecord S)) →
+      answered S st s p t rest r .replies (suc s) q ≡ st .replies (suc s) q
   unfolding answered
   answered-others s t rest absent = go (ltb (length (st .replies s (place S (t .tag) s))) (S .Q))
     where
@@ -86,10 +89,6 @@ module _ (S : Setup) (st : State S) (p q : ℕ) (apart : q ≢ p) where
       go (t ∷ rest) = update2-position (st .replies) 0 p rest 0 q apart
 
 -- ---- a queue is shown empty where it is, and only there
-map-none : {A B : Type 0} (f : A → B) (l : List A) → map f l ≡ [] → l ≡ []
-map-none f [] e = refl
-map-none f (a ∷ l) e = absurd (omega (arith, ap length e))
-
 module _ (x : Network) (v : View) (words : ℕ → ℕ) (s p : ℕ) where
   requests-shown : v .requests s p ≡ [] → shown x v words .requests s p ≡ []
   unfolding shown

@@ -28,7 +28,8 @@ module _ {x : Network} where
 
   -- "R times (2k + 2)"
   pub moves-few : Ranges x → x .R * (2 * x .k + 2) ≤ 2560
-  moves-few r = le-trans (mul-le-mul-left (x .R) (let h : 2 * x .k + 2 ≤ 10 = omega (arith, r .k-most) in h)) (let h : x .R * 10 ≤ 2560 = omega (arith, r .R-most) in h)
+  moves-few r =
+      le-trans (mul-le-mul-left (x .R) (let h : 2 * x .k + 2 ≤ 10 = omega (arith, r .k-most) in h)) (let h : x .R * 10 ≤ 2560 = omega (arith, r .R-most) in h)
 
   pub reached-events : {st st′ : State (setup x)} (es : List Event) → AllFit (x .k) es → st′ ≡ runEvents (setup x) es st → Reached x st → Reached x st′
   reached-events es f e r = record {

@@ -5,7 +5,6 @@ use mathlib.Core.Path.{_≡_, ap}
 use mathlib.Core.List.{List, _∷_}
 use native.Mathlib.Nat.{le-trans, mul-le-mul-left}
 use native.Mathlib.Omega.{arith}
-use lib.ListN.{length}
 use Rattle.machine.specs.Order.{requested}
 use Rattle.machine.specs.Sound.{Sound}
 use Rattle.view.specs.View.{View}
@@ -25,10 +24,6 @@ module _ (x : Network) (v : View) (F : Fits x (v .fixed)) where
   address-few t l = rw (F .address-is t l) (F .ranges .addresses t)
 
   module _ (words : ℕ → ℕ) (S : Sound (setup x) (shown x v words)) where
-    pub order-few : length (v .order) ≤ 256
-    unfolding shown
-    order-few = omega (arith, S .room, F .ranges .R-most)
-
     pub accesses-few : v .accesses ≤ 256
     unfolding shown
     accesses-few = omega (arith, S .accesses, F .ranges .R-most)

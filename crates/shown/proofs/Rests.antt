@@ -2,20 +2,21 @@
 use Prim.Native.Nat.{ℕ, zero, suc, _+_, _-_, _≤_, _<_}
 use mathlib.Core.Path.{_≡_, refl, ap}
 use mathlib.Core.Bool.{true}
-use mathlib.Core.List.{List, [], _∷_, map}
+use mathlib.Core.List.{[], map}
 use native.Mathlib.Omega.{arith}
 use lib.ListN.{length}
 use borrow.Author.Tests.{eqb-true}
+use Rattle.lists.proofs.Lists.{length-none}
 use Rattle.event.specs.Event.{levelFits}
+use Rattle.event.proofs.Steps.{issue-level, module-level, return-level, collect-level, step-named}
+use Rattle.view.specs.View.{View}
 use Rattle.machine.specs.Setup.{Setup}
 use Rattle.machine.specs.State.{State}
 use Rattle.machine.specs.Steps.{forwardOldest, forwardStep, serveOldest, moduleStep, returnOldest, returnStep, collectOldest, collectStep}
 use Rattle.machine.specs.Run.{row}
-use Rattle.view.specs.View.{View}
 use Rattle.shown.specs.Network.{Network, setup}
 use Rattle.shown.specs.Shown.{messageOf, replyOf, tagsAt, shown}
 use Rattle.shown.specs.Reached.{single, restsAt, Moved}
-use Rattle.shown.proofs.Levels.{issue-level, module-level, return-level, collect-level, step-named}
 use Rattle.shown.proofs.Events.{issue-moves, forward-moves, module-moves, return-moves, collect-moves}
 use Rattle.shown.proofs.Moving.{row-onward}
 
@@ -38,10 +39,6 @@ module _ (S : Setup) (st : State S) where
   collect-none p e = rw e
 
 -- ---- an empty queue is shown empty
-length-none : {A : Type 0} (l : List A) → length l ≡ 0 → l ≡ []
-length-none [] e = refl
-length-none (a ∷ l) e = absurd (omega arith)
-
 module _ (x : Network) (v : View) (words : ℕ → ℕ) where
   tags-none : (s p : ℕ) → v .requests s p ≡ [] → tagsAt x v s p ≡ []
   tags-none zero p e = rw e
@@ -55,7 +52,8 @@ module _ (x : Network) (v : View) (words : ℕ → ℕ) where
   unfolding shown
   shown-replies s p e = ap (map (replyOf x v)) (length-none (v .replies s p) e)
 
-  pub rests-moves : (what level position : ℕ) → levelFits (x .k) what level ≡ true → restsAt v what level position ≡ true → Moved x (single what level position) v words v words
+  pub rests-moves : (what level position : ℕ) → levelFits (x .k) what level ≡ true → restsAt v what level position ≡ true →
+      Moved x (single what level position) v words v words
   rests-moves what level position fits h = step-named (x .k) what level fits
       (λ e. issue-moves what level position refl refl e (forward-none (setup x) (shown x v words) 0 position
       (shown-requests 0 position (eqb-true _ _ (rw (e, issue-level (x .k) what level e fits) at h)))))

@@ -1,5 +1,5 @@
 -- The return on the view is the machine's.
-use Prim.Native.Nat.{ℕ, suc, _+_, _≤_, _<_}
+use Prim.Native.Nat.{ℕ, suc, _≤_, _<_}
 use mathlib.Core.Path.{_≡_, refl, ap, ap₂, _∙_}
 use mathlib.Core.List.{List, [], _∷_, _++_, map}
 use native.Mathlib.Omega.{arith}
@@ -9,27 +9,28 @@ use borrow.Author.Tests.{lt-ltb, le-ltb}
 use Rattle.lists.specs.Count.{count}
 use Rattle.lists.specs.Search.{absent, found}
 use Rattle.lists.specs.Table.{update2}
+use Rattle.lists.specs.Pair.{Pair}
 use Rattle.lists.proofs.Tables.{update2-ind}
 use Rattle.lists.proofs.Counts.{same-yes, count-append}
 use Rattle.lists.proofs.Searches.{First, firstOf-is}
+use Rattle.lists.proofs.Maps.{foundMap, firstOf-map, map-append}
 use Rattle.operation.specs.Operation.{applied}
 use Rattle.operation.specs.declared.Words.{Words}
 use Rattle.wiring.specs.Wiring.{positionOn}
+use Rattle.view.specs.View.{View, withReplies, withWaits, withCarried}
 use Rattle.machine.specs.Setup.{WaitRecord, Reply, place}
 use Rattle.machine.specs.Arrival.{oldestOf}
 use Rattle.machine.specs.Steps.{answered, returnOldest, returnStep}
 use Rattle.machine.specs.Order.{requested, waiting, replying}
 use Rattle.machine.specs.Sound.{Sound}
-use Rattle.lists.specs.Pair.{Pair}
-use Rattle.view.specs.View.{View, withReplies, withWaits, withCarried}
 use Rattle.shown.specs.Network.{Network, setup, Fits}
 use Rattle.shown.specs.Shown.{operationIn, valued, recordOf, replyOf, tagsAt, shown, oldestPair}
-use Rattle.shown.proofs.Mapped.{foundMap, firstOf-map, map-append}
 use Rattle.shown.proofs.Apart.{Apart, tagTimes, tags-apart, other-kind, wait-elsewhere, oldest-replying, pair-waiting, unanswered}
 use Rattle.shown.proofs.Carried.{state-eq, messages-framed, records-framed, records-updated, replies-updated, answers-kept, replies-pushed}
 
 -- the record that is taken, among the others
-taken-pair : (t : ℕ) (pairs : List Pair) {older : List Pair} {r : Pair} {younger : List Pair} → oldestPair t pairs ≡ found older r younger → pairs ≡ older ++ (r ∷ younger)
+taken-pair : (t : ℕ) (pairs : List Pair) {older : List Pair} {r : Pair} {younger : List Pair} → oldestPair t pairs ≡ found older r younger →
+    pairs ≡ older ++ (r ∷ younger)
 unfolding oldestPair
 taken-pair t pairs {older} {r} {younger} is =
     let f : First (λ (r : Pair). eqb (r .first) t) pairs (found older r younger) = rw is at (firstOf-is (λ (r : Pair). eqb (r .first) t) pairs) in f .0

@@ -22,7 +22,8 @@ module _ (x : Network) where
   tags-longer : (n t : ℕ) → tagsFrom (suc n) t ≡ tagsFrom n t ++ ((t + n) ∷ [])
   unfolding tagsFrom
   tags-longer zero t = let z : t ≡ t + 0 = omega arith in ap (λ (u : ℕ). u ∷ []) z
-  tags-longer (suc n) t = let z : suc t + n ≡ t + suc n = omega arith in ap (λ (l : List ℕ). t ∷ l) (tags-longer n (suc t) ∙ ap (λ (u : ℕ). tagsFrom n (suc t) ++ (u ∷ [])) z)
+  tags-longer (suc n) t =
+      let z : suc t + n ≡ t + suc n = omega arith in ap (λ (l : List ℕ). t ∷ l) (tags-longer n (suc t) ∙ ap (λ (u : ℕ). tagsFrom n (suc t) ++ (u ∷ [])) z)
 
   tags-all : (n : ℕ) → tagsFrom n 0 ≡ tagsBelow (setup x) n
   unfolding tagsBelow tagsFrom

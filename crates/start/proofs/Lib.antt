@@ -1,1 +1,2 @@
+-- The requests of a trace linked, engine by engine.
 pub mod Linking

@@ -1,3 +1,4 @@
+-- What each read finds and each write changes of the view: a file for each part of the array.
 pub mod Grid
 pub mod Columns
 pub mod Held

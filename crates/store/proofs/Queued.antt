@@ -1,5 +1,5 @@
 -- Queues and wait buffers in their regions: read, and written at one level and position.
-use Prim.Native.Nat.{ℕ, zero, suc, _+_, _-_, _*_, _≤_, _<_}
+use Prim.Native.Nat.{ℕ, suc, _+_, _-_, _*_, _≤_, _<_}
 use mathlib.Core.Path.{_≡_, refl, sym, ap, _∙_}
 use mathlib.Core.Logic.{_≢_}
 use mathlib.Core.List.{List, [], _∷_, _++_}
@@ -11,20 +11,20 @@ use lib.Dec.{eqb, ltb}
 use lib.ListN.{length, getD, set, drop, length-set}
 use lib.Seq.{getD-set-same, getD-set-other}
 use Rattle.lists.specs.Choice.{choose}
-use Rattle.lists.specs.Table.{update, update2, downFrom}
+use Rattle.lists.specs.Table.{update, update2}
 use Rattle.lists.proofs.Tests.{by-cases, choose-yes, choose-no}
-use Rattle.lists.proofs.Tables.{update-same, update-other}
-use Rattle.lists.proofs.Below.{length-below, length-down, down-push}
+use Rattle.lists.proofs.Tables.{update-same, update-other, update-idle}
+use Rattle.lists.proofs.Below.{length-below, length-down, down-push, down-less}
 use Rattle.words.specs.Digits.{lengthIn, byteIn, Pushed}
 use Rattle.words.proofs.Digits.{digit-low}
-use Rattle.view.specs.View.{withRequests, withReplies, withWaits}
 use Rattle.queue.specs.declared.Tags.{Tags}
 use Rattle.queue.specs.Queue.{tagsIn, pairsIn, tagsOf}
+use Rattle.view.specs.View.{withRequests, withReplies, withWaits}
 use Rattle.store.specs.Layout.{size, atCount, atRequestLengths, atReplyLengths, atWaitLengths, atRequests, atReplies, atFirsts, atSeconds}
 use Rattle.store.specs.Memory.{gridAt, lengthsAt, requestsAt, buffersAt, fixedIn, view, Becomes, RowOf}
 use Rattle.store.proofs.Grid.{grid-here, grid-changed}
-use Rattle.store.proofs.Columns.{update-idle}
-use Rattle.store.proofs.Held.{Reading, asTags, alone, asRequests, heldAt, requests-held, requests-above, Told, tags-told, alone-first, requests-none, requests-told}
+use Rattle.store.proofs.Held.{Reading, asTags, alone, asRequests, heldAt, requests-held, requests-above, Told, tags-told}
+use Rattle.store.proofs.Held.{alone-first, requests-none, requests-told}
 use Rattle.store.proofs.Regions.{Kept, becomes}
 
 -- ---- read
@@ -36,7 +36,8 @@ module _ (m : List ℕ) (level position : ℕ) (on : (level < 5) × (position < 
   requests-read = ap (λ (f : ℕ → ℕ → List ℕ). f level position) (requests-held m) ∙ grid-here _ (on .0) (on .1)
 
   pub request-none : eqb (lengthsAt atRequestLengths m level position) 0 ≡ eqb (length (view m .requests level position)) 0
-  request-none = sym (ap (λ (l : List ℕ). eqb (length l) 0) requests-read ∙ requests-none level (gridAt atRequests m level position) (lengthsAt atRequestLengths m level position))
+  request-none =
+      sym (ap (λ (l : List ℕ). eqb (length l) 0) requests-read ∙ requests-none level (gridAt atRequests m level position) (lengthsAt atRequestLengths m level position))
 
   requests-here : 0 < level → view m .requests level position ≡ tagsIn (gridAt atRequests m level position) (lengthsAt atRequestLengths m level position)
   requests-here a = requests-read ∙ requests-above a _ _
@@ -59,13 +60,15 @@ module _ (m : List ℕ) (level position : ℕ) (on : (level < 5) × (position < 
   waits-length = ap length waits-here ∙ length-below _ _
 
   -- as they are loaded
-  pub requests-is : 0 < level → (n : ℕ) → n ≡ length (view m .requests level position) → tagsIn (gridAt atRequests m level position) n ≡ view m .requests level position
+  pub requests-is : 0 < level → (n : ℕ) → n ≡ length (view m .requests level position) →
+      tagsIn (gridAt atRequests m level position) n ≡ view m .requests level position
   requests-is a n e = ap (λ (k : ℕ). tagsIn (gridAt atRequests m level position) k) (e ∙ requests-length a) ∙ sym (requests-here a)
 
   pub replies-is : (n : ℕ) → n ≡ length (view m .replies level position) → tagsIn (gridAt atReplies m level position) n ≡ view m .replies level position
   replies-is n e = ap (λ (k : ℕ). tagsIn (gridAt atReplies m level position) k) (e ∙ replies-length) ∙ sym replies-here
 
-  pub waits-is : (n : ℕ) → n ≡ length (view m .waits level position) → pairsIn (gridAt atFirsts m level position) (gridAt atSeconds m level position) n ≡ view m .waits level position
+  pub waits-is : (n : ℕ) → n ≡ length (view m .waits level position) →
+      pairsIn (gridAt atFirsts m level position) (gridAt atSeconds m level position) n ≡ view m .waits level position
   waits-is n e = ap (λ (k : ℕ). pairsIn (gridAt atFirsts m level position) (gridAt atSeconds m level position) k) (e ∙ waits-length) ∙ sym waits-here
 
 -- a queue by value is as long as it says
@@ -73,7 +76,8 @@ pub held-length : (r : Tags) (l : List ℕ) → tagsOf r ≡ l → length l ≡ 
 held-length r l e = ap length (sym e) ∙ length-down _ _
 
 -- a queue is empty where its length is 0
-row-of : {read : Reading} → Told read → (lengths from : ℕ) (m : List ℕ) (level : ℕ) → level < 5 → RowOf (heldAt read lengths from m level) (getD m (lengths + level) 0)
+row-of : {read : Reading} → Told read → (lengths from : ℕ) (m : List ℕ) (level : ℕ) → level < 5 →
+    RowOf (heldAt read lengths from m level) (getD m (lengths + level) 0)
 row-of {read} t lengths from m level a = record {
   empty = λ p l e. here p l ∙ ap (λ (k : ℕ). read level (gridAt from m level p) k) e ∙ t .none level _;
   full = λ p l n z. n (t .short level _ _ (sym (here p l) ∙ z));
@@ -122,12 +126,6 @@ replies-changed : {m m′ : List ℕ} {level position : ℕ} {l : List ℕ} →
 unfolding view
 replies-changed {m} {m′} c = becomes atReplyLengths 5 atReplies 80 m m′ (c .outside) (c .sized) (rw (c .inside))
 
--- the oldest goes, and the word is as it was
-down-less : (n : ℕ) (f : ℕ → ℕ) → 0 < n → downFrom (n - 1) f ≡ drop 1 (downFrom n f)
-unfolding downFrom
-down-less zero f h = absurd (omega arith)
-down-less (suc n) f h = let e : suc n - 1 ≡ n = omega arith in rw e
-
 module _ (read : Reading) (lengths from : ℕ) (m : List ℕ) (level position : ℕ)
     (placed : (lengths + 5 ≤ from) × (from + 80 ≤ size)) (on : (level < 5) × (position < 16)) (fits : length m ≡ size) where
   abbrev at : ℕ
@@ -136,7 +134,8 @@ module _ (read : Reading) (lengths from : ℕ) (m : List ℕ) (level position : 
   abbrev row : ℕ
   row = lengths + level
 
-  changed : (m′ : List ℕ) (w n : ℕ) (l : List ℕ) → length m′ ≡ size → getD m′ at 0 ≡ w → lengthIn (getD m′ row 0) ≡ update (lengthIn (getD m row 0)) position n →
+  changed : (m′ : List ℕ) (w n : ℕ) (l : List ℕ) → length m′ ≡ size → getD m′ at 0 ≡ w →
+      lengthIn (getD m′ row 0) ≡ update (lengthIn (getD m row 0)) position n →
       ((k : ℕ) → k ≢ at → k ≢ row → getD m′ k 0 ≡ getD m k 0) → read level w n ≡ l → Changed read lengths from m m′ level position l
   changed m′ w n l sized there e h t = record {
     sized = sized;
@@ -209,7 +208,8 @@ module _ (m : List ℕ) (fits : length m ≡ size) (level position : ℕ) (on : 
 
   module _ (a : 0 < level) where
     pub request-count-kept : (w : ℕ) → lengthIn (getD (set m requestAt w) requestRow 0) position ≡ length (view m .requests level position)
-    request-count-kept = count-kept asRequests atRequestLengths atRequests m level position (omega arith) on fits (requests-above a) _ (requests-here m level position on a)
+    request-count-kept =
+        count-kept asRequests atRequestLengths atRequests m level position (omega arith) on fits (requests-above a) _ (requests-here m level position on a)
 
     pub requests-stored : (w v k n : ℕ) → k ≡ n → lengthIn v ≡ update (lengthIn (getD (set m requestAt w) requestRow 0)) position k →
         Becomes (set (set m requestAt w) requestRow v) (withRequests (view m) level position (tagsIn w n))
@@ -225,7 +225,8 @@ module _ (m : List ℕ) (fits : length m ≡ size) (level position : ℕ) (on : 
   pub reply-count-kept : (w : ℕ) → lengthIn (getD (set m replyAt w) replyRow 0) position ≡ length (view m .replies level position)
   reply-count-kept = count-kept asTags atReplyLengths atReplies m level position (omega arith) on fits (λ w n. refl) _ (replies-here m level position on)
 
-  pub reply-popped : (v : ℕ) → 0 < length (view m .replies level position) → lengthIn v ≡ update (lengthIn (getD m replyRow 0)) position (lengthIn (getD m replyRow 0) position - 1) →
+  pub reply-popped : (v : ℕ) → 0 < length (view m .replies level position) →
+      lengthIn v ≡ update (lengthIn (getD m replyRow 0)) position (lengthIn (getD m replyRow 0) position - 1) →
       Becomes (set m replyRow v) (withReplies (view m) level position (drop 1 (view m .replies level position)))
   reply-popped v h e =
       replies-changed (queue-popped asTags atReplyLengths atReplies m level position (omega arith) on fits (λ w n. refl) _ (replies-here m level position on) v h e)
@@ -315,7 +316,8 @@ module _ (m : List ℕ) (fits : length m ≡ size) (level position : ℕ) (on : 
     away k x y z = getD-set-other m₂ atLength k v 0 z ∙ getD-set-other m₁ atSecond k s 0 y ∙ getD-set-other m atFirst k f 0 x
 
     first-here : getD m₃ atFirst 0 ≡ f
-    first-here = getD-set-other m₂ atLength atFirst v 0 (omega arith) ∙ getD-set-other m₁ atSecond atFirst s 0 (omega arith) ∙ getD-set-same m atFirst f 0 (omega arith)
+    first-here =
+        getD-set-other m₂ atLength atFirst v 0 (omega arith) ∙ getD-set-other m₁ atSecond atFirst s 0 (omega arith) ∙ getD-set-same m atFirst f 0 (omega arith)
 
     second-here : getD m₃ atSecond 0 ≡ s
     second-here = getD-set-other m₂ atLength atSecond v 0 (omega arith) ∙ getD-set-same m₁ atSecond s 0 (rw length-set (omega arith))

@@ -8,7 +8,7 @@ use borrow.Author.Tests.{lt-ltb}
 use lib.ListN.{length, getD, set, length-set}
 use lib.Seq.{getD-set-same, getD-set-other}
 use Rattle.lists.specs.Table.{update}
-use Rattle.lists.proofs.Tables.{update-same, update-other}
+use Rattle.lists.proofs.Tables.{update-same, update-other, update-unique, update-idle, update-map}
 use Rattle.operation.specs.declared.Operation.{Operation}
 use Rattle.operation.specs.declared.Words.{Words}
 use Rattle.operation.specs.Operation.{wordsOf}
@@ -16,7 +16,7 @@ use Rattle.operation.proofs.Laws.{code-byte}
 use Rattle.view.specs.View.{Fixed, withFixed, withCarried, withRequest, linked}
 use Rattle.store.specs.Layout.{size, atK, atQ, atW, atCount, atEvery, atHeads, atFirstOperands, atSecondOperands}
 use Rattle.store.specs.Memory.{columnAt, codeOf, addressOf, pathOf, afterOf, fixedIn, carriedIn, view, Becomes}
-use Rattle.store.proofs.Columns.{tags-changed, update-unique, update-idle, update-map}
+use Rattle.store.proofs.Columns.{tags-changed}
 use Rattle.store.proofs.Regions.{Kept, marks-same, becomes}
 use Rattle.store.proofs.Heads.{Head, head-new, head-linked, head-coded}
 
@@ -136,7 +136,8 @@ module _ (m : List ℕ) (fits : length m ≡ size) (t : ℕ) (l : t < 256) where
         first =
             getD-set-other m₂ (atSecondOperands + t) (atFirstOperands + t) s 0 (omega arith) ∙ getD-set-same m₁ (atFirstOperands + t) f 0 (rw length-set (omega arith));
         second = getD-set-same m₂ (atSecondOperands + t) s 0 (rw (length-set, length-set) (omega arith));
-        away = λ k a b c. getD-set-other m₂ (atSecondOperands + t) k s 0 c ∙ getD-set-other m₁ (atFirstOperands + t) k f 0 b ∙ getD-set-other m (atHeads + t) k h 0 a;
+        away =
+            λ k a b c. getD-set-other m₂ (atSecondOperands + t) k s 0 c ∙ getD-set-other m₁ (atFirstOperands + t) k f 0 b ∙ getD-set-other m (atHeads + t) k h 0 a;
       }
 
   head-written : (h : ℕ) → Written m (set m (atHeads + t) h) t h (getD m (atFirstOperands + t) 0) (getD m (atSecondOperands + t) 0)

@@ -13,7 +13,8 @@ use Rattle.words.specs.Digits.{lengthIn, byteIn, bitIn}
 use Rattle.lists.specs.Pair.{Pair}
 use Rattle.view.specs.View.{Fixed, View}
 use Rattle.queue.specs.Queue.{tagsIn, pairsIn}
-use Rattle.store.specs.Layout.{size, atK, atQ, atW, atCount, atEvery, atAnswered, atOrdered, atAccesses, atMerges, atRounds, atRequestLengths, atReplyLengths, atWaitLengths}
+use Rattle.store.specs.Layout.{size, atK, atQ, atW, atCount, atEvery, atAnswered, atOrdered, atAccesses, atMerges, atRounds}
+use Rattle.store.specs.Layout.{atRequestLengths, atReplyLengths, atWaitLengths}
 use Rattle.store.specs.Layout.{atOrder, atRequests, atReplies, atFirsts, atSeconds, atHeads, atFirstOperands, atSecondOperands}
 
 -- ---- the regions, and how each is read
@@ -53,7 +54,8 @@ abbrev pub nextAt : List ℕ → ℕ → List ℕ
 nextAt m e = choose (eqb (lengthsAt atRequestLengths m 0 e) 0) [] (byteIn (gridAt atRequests m 0 e) 0 ∷ [])
 
 abbrev pub requestsAt : List ℕ → ℕ → ℕ → List ℕ
-requestsAt m = onGrid (λ level position. choose (eqb level 0) (nextAt m position) (tagsIn (gridAt atRequests m level position) (lengthsAt atRequestLengths m level position)))
+requestsAt m =
+    onGrid (λ level position. choose (eqb level 0) (nextAt m position) (tagsIn (gridAt atRequests m level position) (lengthsAt atRequestLengths m level position)))
 
 abbrev pub buffersAt : ℕ → ℕ → ℕ → List ℕ → ℕ → ℕ → List Pair
 buffersAt lengths firsts seconds m =

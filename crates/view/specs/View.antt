@@ -66,6 +66,21 @@ filled v requests waits carried merges = record {
   rounds = v .rounds;
 }
 
+-- another order list, and other counts of accesses and rounds
+abbrev pub counted : View → List ℕ → ℕ → ℕ → View
+counted v order accesses rounds = record {
+  fixed = v .fixed;
+  carried = v .carried;
+  answered = v .answered;
+  requests = v .requests;
+  replies = v .replies;
+  waits = v .waits;
+  order = order;
+  accesses = accesses;
+  merges = v .merges;
+  rounds = rounds;
+}
+
 -- another table of what the tags carry
 abbrev pub carrying : View → (ℕ → Words) → View
 carrying v carried = filled v (v .requests) (v .waits) carried (v .merges)
@@ -114,33 +129,11 @@ withWaits v s p l = filled v (v .requests) (update2 (v .waits) s p l) (v .carrie
 
 -- the order list, longer by l
 abbrev pub withOrder : View → List ℕ → View
-withOrder v l = record {
-  fixed = v .fixed;
-  carried = v .carried;
-  answered = v .answered;
-  requests = v .requests;
-  replies = v .replies;
-  waits = v .waits;
-  order = v .order ++ l;
-  accesses = v .accesses;
-  merges = v .merges;
-  rounds = v .rounds;
-}
+withOrder v l = counted v (v .order ++ l) (v .accesses) (v .rounds)
 
 -- one module access more
 abbrev pub withAccess : View → View
-withAccess v = record {
-  fixed = v .fixed;
-  carried = v .carried;
-  answered = v .answered;
-  requests = v .requests;
-  replies = v .replies;
-  waits = v .waits;
-  order = v .order;
-  accesses = suc (v .accesses);
-  merges = v .merges;
-  rounds = v .rounds;
-}
+withAccess v = counted v (v .order) (suc (v .accesses)) (v .rounds)
 
 -- one merge more
 abbrev pub withMerge : View → View
@@ -148,18 +141,7 @@ withMerge v = filled v (v .requests) (v .waits) (v .carried) (suc (v .merges))
 
 -- one round more
 abbrev pub withRound : View → View
-withRound v = record {
-  fixed = v .fixed;
-  carried = v .carried;
-  answered = v .answered;
-  requests = v .requests;
-  replies = v .replies;
-  waits = v .waits;
-  order = v .order;
-  accesses = v .accesses;
-  merges = v .merges;
-  rounds = suc (v .rounds);
-}
+withRound v = counted v (v .order) (v .accesses) (suc (v .rounds))
 
 -- the shape and the number of requests
 abbrev pub shaped : Fixed → ℕ → ℕ → ℕ → ℕ → Fixed

@@ -1,21 +1,12 @@
 -- The laws of a path: where it starts, where it ends, that its next position depends on the last one and the module alone,
 -- and that it is what rotating and replacing gives: document 01, "Wiring and queues".
-use mathlib.Core.Path.{_≡_, refl, sym, _∙_, ap}
-use mathlib.Core.Bool.{Bool, true, false}
+use mathlib.Core.Path.{_≡_, sym, _∙_, ap}
 use Prim.Native.Nat.{ℕ, zero, suc, _+_, _-_, _*_, _/_, _%_, _^_, _≤_, _<_}
 use native.Mathlib.Nat.{mod-lt, mod-add-mod, mod-eq-of-lt, div-eq-of-lt, pow-suc, div-div-eq-div-mul, mul-add-mod-self-right, mul-assoc}
 use native.Mathlib.Omega.{arith}
-use lib.Dec.{ltb}
 use lib.Pow.{pow-pos, pow-add, high, low}
-use borrow.Author.Tests.{ltb-true, ltb-false}
+use Rattle.lists.proofs.Tests.{below-cases}
 use Rattle.wiring.specs.Wiring.{moduleOf, position, rotated, replaced, nextBit, shuffled}
-
-below-cases : {G : Type 0} (a b : ℕ) → (a < b → G) → (b ≤ a → G) → G
-below-cases {G} a b f g = go (ltb a b) refl
-  where
-    go : (t : Bool) → ltb a b ≡ t → G
-    go true e = f (ltb-true a b e)
-    go false e = g (ltb-false a b e)
 
 pub module-below : (k a : ℕ) → moduleOf k a < 2 ^ k
 unfolding moduleOf

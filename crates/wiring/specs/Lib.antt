@@ -1,1 +1,2 @@
+-- The positions of a path, and a path as one word.
 pub mod Wiring

@@ -1,5 +1,5 @@
 -- The first place of a word whose digit is not 0, by the zeros below the lowest set bit.
-use Prim.Native.Nat.{ℕ, zero, suc, _+_, _-_, _*_, _/_, _%_, _^_, _≤_, _<_}
+use Prim.Native.Nat.{ℕ, zero, suc, _+_, _*_, _/_, _%_, _^_, _≤_, _<_}
 use mathlib.Core.Path.{_≡_, refl, sym, ap, _∙_}
 use mathlib.Core.Logic.{_≢_}
 use native.Mathlib.Nat.{zero-add, suc-add, add-comm, zero-mul, suc-mul, mul-one, zero-div, mod-one, pow-suc, div-add-mod', add-div-left, div-eq-of-lt}

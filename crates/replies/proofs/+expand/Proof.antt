@@ -5,7 +5,8 @@ use native.Mathlib.Omega.{arith}
 use Rattle.view.specs.View.{withOrder}
 use Rattle.queue.specs.Queue.{pairIn}
 use Rattle.store.specs.Memory.{view, Becomes}
-use Rattle.replies.proofs.Expanded.{sofar, Past, past-none, past-next, tags-part, one-room, put-one, under, fit-kept, put-none, put-hit, put-miss, put-all, put-empty, second-room}
+use Rattle.replies.proofs.Expanded.{sofar, Past, past-none, past-next, tags-part, one-room, put-one, under, fit-kept, put-none}
+use Rattle.replies.proofs.Expanded.{put-hit, put-miss, put-all, put-empty, second-room}
 use borrow.Author.Needs.{needs}
 use borrow.Fn.Kinds.{In}
 use borrow.Fn.PlainCycle.{Measures, is, falls, and}

@@ -1,10 +1,30 @@
 -- `module_step` meets its contract: nothing where the reply queue is full, and the oldest message taken otherwise.
 use native.Mathlib.Omega.{arith}
 use Rattle.replies.proofs.Shape.{requests-fit, waits-fit}
-use Rattle.replies.proofs.Served.{level-fits, request-there, order-fits, access-room, reply-room, request-stays, served-full, served}
+use Rattle.replies.proofs.Served.{level-fits, request-there, Oldest, order-fits, access-room, reply-room, request-stays, served-full, served}
 use borrow.Author.Needs.{needs}
 use Rattle.replies.proofs.module_step.Statement.{statement}
 use Rattle.replies.proofs.module_step.Tie as tie
+
+-- where the number of levels was read, behind the entry
+abbrev at-levels : tie.After-oldest-request → tie.After-levels
+at-levels c = c .before .before .before .before .before .before .before
+
+oldest-at : (c : tie.After-oldest-request) → let k = at-levels c in let s = k .before .before in
+    Oldest (s .args .m .now) (s .args .words .now) (k .levels .result) (s .args .position) (c .oldest-request .result)
+oldest-at c =
+    let test = c .before .before in
+    let count = test .before in
+    let room = count .before .before in
+    let k = room .before .before in
+    let s = k .before .before in
+    record {
+      ready = s .pre .0;
+      at-modules = k .levels .ensures;
+      some = s .pre .1 .1;
+      room = omega (arith, room .queue-room .ensures, count .reply-count .ensures, test .if1 .left);
+      oldest = c .oldest-request .ensures;
+    }
 
 levels-requires : tie.Need-levels-requires
 levels-requires c κs = search needs
@@ -35,49 +55,32 @@ oldest-request-requires c κs =
 
 expand-requires : tie.Need-expand-requires
 expand-requires c κs =
-    let oldest = c .before in
-    let k = oldest .before .before .before .before .before .before .before in
-    let s = k .before .before in
-    let fits = order-fits (s .pre .0) _ (k .levels .ensures) _ (s .pre .1 .1) _ (oldest .oldest-request .ensures) in
-    (s .pre .0 .sized, (level-fits (s .pre .0) _ (k .levels .ensures) .1, (waits-fit (s .pre .0 .stands), fits)))
+    let O = oldest-at (c .before) in
+    let R = O .ready in
+    (R .sized, (level-fits R _ (O .at-modules) .1, (waits-fit (R .stands), order-fits O)))
 
 add-access-requires : tie.Need-add-access-requires
 add-access-requires c κs =
-    let expanded = c .before in
-    let oldest = expanded .before .before in
-    let k = oldest .before .before .before .before .before .before .before in
-    let s = k .before .before in
-    let order = expanded .expand .ensures in
-    (order .sized, access-room (s .pre .0) _ (k .levels .ensures) _ (s .pre .1 .1) _ (oldest .oldest-request .ensures) order)
+    let order = c .before .expand .ensures in
+    (order .sized, access-room (oldest-at (c .before .before .before)) order)
 
 exchange-requires : tie.Need-exchange-requires
-exchange-requires c κs =
-    let s = c .before .before .before .before .before .before .before .before .before .before .before .before .before .before .before in
-    s .pre .0 .words-sized
+exchange-requires c κs = oldest-at (c .before .before .before .before .before .before) .ready .words-sized
 
 set-value-requires : tie.Need-set-value-requires
-set-value-requires c κs =
-    let counted = c .before .before .before .before in
-    counted .add-access .ensures .sized
+set-value-requires c κs = c .before .before .before .before .add-access .ensures .sized
 
 push-reply-requires : tie.Need-push-reply-requires
 push-reply-requires c κs =
-    let set = c .before in
-    let word = set .before .before in
+    let word = c .before .before .before in
     let counted = word .before .before .before in
     let expanded = counted .before .before in
     let oldest = expanded .before .before in
-    let test = oldest .before .before in
-    let count = test .before in
-    let room = count .before .before in
-    let k = room .before .before in
-    let s = k .before .before in
-    let k = k .levels .ensures in
+    let O = oldest-at oldest in
     let x = word .exchange .ensures in
-    let v = set .set-value .ensures in
-    let fits = reply-room (s .pre .0) _ k _ (s .pre .1 .1) _ (oldest .oldest-request .ensures) (expanded .expand .ensures) _ (counted .add-access .ensures) (x .0) (x .1) v
-    (omega (arith, room .queue-room .ensures, count .reply-count .ensures, test .if1 .left)) in
-    (v .sized, ((level-fits (s .pre .0) _ k .1, s .pre .1 .0), fits))
+    let v = c .before .set-value .ensures in
+    let fits = reply-room O (expanded .expand .ensures) _ (counted .add-access .ensures) (x .0) (x .1) v in
+    (v .sized, ((level-fits (O .ready) _ (O .at-modules) .1, at-levels oldest .before .before .pre .1 .0), fits))
 
 pop-request-requires : tie.Need-pop-request-requires
 pop-request-requires c κs =
@@ -87,15 +90,12 @@ pop-request-requires c κs =
     let counted = word .before .before .before in
     let expanded = counted .before .before in
     let oldest = expanded .before .before in
-    let k = oldest .before .before .before .before .before .before .before in
-    let s = k .before .before in
-    let k = k .levels .ensures in
+    let O = oldest-at oldest in
     let x = word .exchange .ensures in
     let r = pushed .push-reply .ensures in
-    let stays = request-stays (s .pre .0) _ k _ (s .pre .1 .1) _ (oldest .oldest-request .ensures) (expanded .expand .ensures) _ (counted .add-access .ensures) (x .0) (x .1)
-    (set .set-value .ensures) r in
-    let level = level-fits (s .pre .0) _ k in
-    (r .sized, ((level .0, level .1, s .pre .1 .0), stays))
+    let stays = request-stays O (expanded .expand .ensures) _ (counted .add-access .ensures) (x .0) (x .1) (set .set-value .ensures) r in
+    let level = level-fits (O .ready) _ (O .at-modules) in
+    (r .sized, ((level .0, level .1, at-levels oldest .before .before .pre .1 .0), stays))
 
 returns-2 : tie.Need-returns-2
 returns-2 c =
@@ -104,15 +104,9 @@ returns-2 c =
     let word = set .before .before in
     let counted = word .before .before .before in
     let expanded = counted .before .before in
-    let oldest = expanded .before .before in
-    let test = oldest .before .before in
-    let count = test .before in
-    let room = count .before .before in
-    let k = room .before .before in
-    let s = k .before .before in
     let x = word .exchange .ensures in
-    served (s .pre .0) _ (k .levels .ensures) _ (s .pre .1 .1) _ (oldest .oldest-request .ensures) (expanded .expand .ensures) _ (counted .add-access .ensures) (x .0) (x .1)
-    (set .set-value .ensures) (pushed .push-reply .ensures) (omega (arith, room .queue-room .ensures, count .reply-count .ensures, test .if1 .left)) (c .pop-request .ensures)
+    served (oldest-at (expanded .before .before)) (expanded .expand .ensures) _ (counted .add-access .ensures) (x .0) (x .1)
+    (set .set-value .ensures) (pushed .push-reply .ensures) (c .pop-request .ensures)
 
 pub module-step-spec : {M : Type 1} → statement M
 module-step-spec =

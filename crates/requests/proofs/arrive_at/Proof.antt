@@ -3,7 +3,8 @@ use native.Mathlib.Omega.{arith}
 use borrow.Author.Needs.{needs}
 use Rattle.store.specs.Memory.{view}
 use Rattle.node.specs.declared.Node.{Node}
-use Rattle.requests.proofs.Landings.{InHand, loaded-apart, loaded-rooms, longer-by-one, recorded-by-one, merges-still-few, went-refused, went-appended, went-merged}
+use Rattle.requests.proofs.Landings.{InHand, loaded-apart, loaded-rooms, longer-by-one, recorded-by-one, merges-still-few}
+use Rattle.requests.proofs.Landings.{went-refused, went-appended, went-merged}
 use Rattle.requests.proofs.arrive_at.Statement.{statement}
 use Rattle.requests.proofs.arrive_at.Tie as tie
 
@@ -28,7 +29,8 @@ wait-room-requires : tie.Need-wait-room-requires
 wait-room-requires c κs = search needs
 
 load-requests-requires : tie.Need-load-requests-requires
-load-requests-requires c κs = let s = c .before .before .before .before .before in ((s .pre .1 .0 .0, s .pre .1 .0 .1, s .pre .1 .0 .2), omega (arith, s .pre .1 .0 .3))
+load-requests-requires c κs =
+    let s = c .before .before .before .before .before in ((s .pre .1 .0 .0, s .pre .1 .0 .1, s .pre .1 .0 .2), omega (arith, s .pre .1 .0 .3))
 
 load-waits-requires : tie.Need-load-waits-requires
 load-waits-requires c κs = let s = c .before .before .before .before .before .before .before in ((s .pre .1 .0 .1, s .pre .1 .0 .2), s .pre .1 .0 .4)
@@ -50,7 +52,8 @@ enum-told-2 : tie.Need-enum-told-2
 enum-told-2 c = search needs
 
 store-longer-requests-requires : tie.Need-store-longer-requests-requires
-store-longer-requests-requires c κs = let s = c .before .before .before .before .before .before .before .before .before .before .before .before .before .before .before in
+store-longer-requests-requires c κs =
+    let s = c .before .before .before .before .before .before .before .before .before .before .before .before .before .before .before in
     let a = c .before .before .before .before .before in (
       a .arrive .ensures .sized,
       (
@@ -63,7 +66,8 @@ enum-told-3 : tie.Need-enum-told-3
 enum-told-3 c = search needs
 
 store-longer-waits-requires : tie.Need-store-longer-waits-requires
-store-longer-waits-requires c κs = let s = c .before .before .before .before .before .before .before .before .before .before .before .before .before .before .before in
+store-longer-waits-requires c κs =
+    let s = c .before .before .before .before .before .before .before .before .before .before .before .before .before .before .before in
     let a = c .before .before .before .before .before in (
       a .arrive .ensures .sized,
       (
@@ -73,7 +77,8 @@ store-longer-waits-requires c κs = let s = c .before .before .before .before .b
     )
 
 add-merge-requires : tie.Need-add-merge-requires
-add-merge-requires c κs = let s = c .before .before .before .before .before .before .before .before .before .before .before .before .before .before .before .before .before in
+add-merge-requires c κs =
+    let s = c .before .before .before .before .before .before .before .before .before .before .before .before .before .before .before .before .before in
     let a = c .before .before .before .before .before .before .before in
     let stored = c .before .store-longer-waits .ensures in
     (stored .sized, merges-still-few (loaded (a .before .before)) (a .arrive .ensures) stored (s .pre .1 .1 .0 .2))

@@ -2,7 +2,8 @@
 use Prim.Native.Nat.{_<_}
 use native.Mathlib.Omega.{arith}
 use Rattle.shown.specs.Reached.{single}
-use Rattle.requests.proofs.Onward.{levels-few, rooms, queue-few, Going, going-apart, going-few, full-moves, source-filled, refused-moves, forward-goes, forwarded-moves}
+use Rattle.requests.proofs.Onward.{levels-few, rooms, queue-few, Going, going-apart, going-few, full-moves, source-filled}
+use Rattle.requests.proofs.Onward.{refused-moves, forward-goes, forwarded-moves}
 use Rattle.requests.proofs.forward.Statement.{statement}
 use Rattle.requests.proofs.forward.Tie as tie
 
@@ -16,7 +17,8 @@ low : (s : tie.Start) → s .args .level < 4
 low s = omega (arith, levels-few (s .pre .0), s .pre .1 .0 .1)
 
 oldest-request-requires : tie.Need-oldest-request-requires
-oldest-request-requires c κs = let s = c .before in ((s .pre .1 .0 .0, omega (arith, low s), s .pre .1 .0 .2), (s .pre .1 .1, queue-few (s .pre .0) _ _ (s .pre .1 .0 .0)))
+oldest-request-requires c κs =
+    let s = c .before in ((s .pre .1 .0 .0, omega (arith, low s), s .pre .1 .0 .2), (s .pre .1 .1, queue-few (s .pre .0) _ _ (s .pre .1 .0 .0)))
 
 add-position-of : tie.Need-add-position-of
 add-position-of c = record { fits = omega (arith, low (c .before .before .before)) }

@@ -1,4 +1,4 @@
--- `is_full` meets its contract.
+-- `is_full` meets its contract: both rooms, test by test.
 use borrow.Author.Tests.{le-leb, lt-leb}
 use borrow.Author.Needs.{needs}
 use Rattle.requests.proofs.is_full.Statement.{statement}

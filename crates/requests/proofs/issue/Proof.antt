@@ -2,7 +2,8 @@
 use native.Mathlib.Omega.{arith}
 use borrow.Author.Needs.{needs}
 use Rattle.shown.specs.Reached.{single}
-use Rattle.requests.proofs.Onward.{rooms, Going, going-apart, going-few, full-moves, count-still-few, source-filled, refused-moves, issue-goes, issued-moves}
+use Rattle.requests.proofs.Onward.{rooms, Going, going-apart, going-few, full-moves, count-still-few, source-filled, refused-moves}
+use Rattle.requests.proofs.Onward.{issue-goes, issued-moves}
 use Rattle.requests.proofs.issue.Statement.{statement}
 use Rattle.requests.proofs.issue.Tie as tie
 

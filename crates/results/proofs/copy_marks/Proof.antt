@@ -15,7 +15,7 @@ abbrev μ-loop : tie.MeasureT-loop
 μ-loop m n marks₀ t₀ marks t = n - t
 
 loop-holds : tie.Need-loop-holds Inv-loop μ-loop
-loop-holds c = (omega arith, filled-none (markIn (view (c .before .args .m .now))) (c .before .args .marks .now))
+loop-holds c = (omega arith, filled-none)
 
 mark-of-requires : tie.Need-mark-of-requires Inv-loop μ-loop
 mark-of-requires c κs = search needs
@@ -30,19 +30,13 @@ loop-less : tie.Need-loop-less Inv-loop μ-loop
 loop-less c = search needs
 
 loop-again : tie.Need-loop-again Inv-loop μ-loop
-loop-again c =
-    let start = c .before .before .before .before in
-    let l = c .before .before .loop in
-    (omega arith, filled-more (markIn (view (start .args .m .now))) (start .args .marks .now) (l .marks) (l .t) (l .inv .1) (omega arith) (c .mark-of .result) (c .mark-of .ensures))
+loop-again c = (omega arith, filled-more (c .before .before .loop .inv .1) (omega arith) (c .mark-of .ensures))
 
 same-length : tie.Need-same-length Inv-loop μ-loop
 same-length c = c .before .loop .inv .1 .sized
 
 returns : tie.Need-returns Inv-loop μ-loop
-returns c =
-    let start = c .before .before .before in
-    let l = c .before .loop in
-    filled-all (markIn (view (start .args .m .now))) (start .args .marks .now) (l .marks) (l .t) (l .inv .1) (start .args .n) (omega arith)
+returns c = filled-all (c .before .loop .inv .1) (omega arith)
 
 pub copy-marks-spec : {M : Type 1} → statement M
 copy-marks-spec =

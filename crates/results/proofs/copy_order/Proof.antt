@@ -18,7 +18,7 @@ ordered-requires : tie.Need-ordered-requires Inv-loop μ-loop
 ordered-requires c κs = search needs
 
 loop-holds : tie.Need-loop-holds Inv-loop μ-loop
-loop-holds c = (omega arith, filled-none (λ j. getD (view (c .before .before .args .m .now) .order) j 0) (c .before .before .args .order .now))
+loop-holds c = (omega arith, filled-none)
 
 order-at-requires : tie.Need-order-at-requires Inv-loop μ-loop
 order-at-requires c κs = search needs
@@ -39,19 +39,13 @@ loop-less : tie.Need-loop-less Inv-loop μ-loop
 loop-less c = search needs
 
 loop-again : tie.Need-loop-again Inv-loop μ-loop
-loop-again c =
-    let start = c .before .before .before .before .before in
-    let l = c .before .before .loop in
-    (omega arith, filled-more (λ j. getD (view (start .args .m .now) .order) j 0) (start .args .order .now) (l .order) (l .i) (l .inv .1) (omega arith) (c .order-at .result) (c .order-at .ensures))
+loop-again c = (omega arith, filled-more (c .before .before .loop .inv .1) (omega arith) (c .order-at .ensures))
 
 same-length : tie.Need-same-length Inv-loop μ-loop
 same-length c = c .before .loop .inv .1 .sized
 
 returns : tie.Need-returns Inv-loop μ-loop
-returns c =
-    let start = c .before .before .before .before in
-    let l = c .before .loop in
-    filled-list (view (start .args .m .now) .order) (start .args .order .now) (l .order) (l .i) (l .inv .1) (omega arith)
+returns c = filled-list (view (c .before .before .before .before .args .m .now) .order) (c .before .loop .inv .1) (omega arith)
 
 pub copy-order-spec : {M : Type 1} → statement M
 copy-order-spec =

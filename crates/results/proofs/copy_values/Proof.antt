@@ -15,7 +15,7 @@ abbrev μ-loop : tie.MeasureT-loop
 μ-loop m n replies₀ t₀ replies t = n - t
 
 loop-holds : tie.Need-loop-holds Inv-loop μ-loop
-loop-holds c = (omega arith, filled-none (valueIn (view (c .before .args .m .now))) (c .before .args .replies .now))
+loop-holds c = (omega arith, filled-none)
 
 value-of-requires : tie.Need-value-of-requires Inv-loop μ-loop
 value-of-requires c κs = search needs
@@ -33,19 +33,13 @@ loop-less : tie.Need-loop-less Inv-loop μ-loop
 loop-less c = search needs
 
 loop-again : tie.Need-loop-again Inv-loop μ-loop
-loop-again c =
-    let start = c .before .before .before .before in
-    let l = c .before .before .loop in
-    (omega arith, filled-more (valueIn (view (start .args .m .now))) (start .args .replies .now) (l .replies) (l .t) (l .inv .1) (omega arith) (c .value-of .result) (c .value-of .ensures))
+loop-again c = (omega arith, filled-more (c .before .before .loop .inv .1) (omega arith) (c .value-of .ensures))
 
 same-length : tie.Need-same-length Inv-loop μ-loop
 same-length c = c .before .loop .inv .1 .sized
 
 returns : tie.Need-returns Inv-loop μ-loop
-returns c =
-    let start = c .before .before .before in
-    let l = c .before .loop in
-    filled-all (valueIn (view (start .args .m .now))) (start .args .replies .now) (l .replies) (l .t) (l .inv .1) (start .args .n) (omega arith)
+returns c = filled-all (c .before .loop .inv .1) (omega arith)
 
 pub copy-values-spec : {M : Type 1} → statement M
 copy-values-spec =

@@ -15,7 +15,7 @@ abbrev μ-loop : tie.MeasureT-loop
 μ-loop memory words₀ i₀ words i = 256 - i
 
 loop-holds : tie.Need-loop-holds Inv-loop μ-loop
-loop-holds c = (omega arith, filled-none (λ j. getD (c .args .memory .now) j 0) (c .args .words .now))
+loop-holds c = (omega arith, filled-none)
 
 mul-words : tie.Need-mul-words Inv-loop μ-loop
 mul-words c = search needs
@@ -36,20 +36,13 @@ loop-less : tie.Need-loop-less Inv-loop μ-loop
 loop-less c = search needs
 
 loop-again : tie.Need-loop-again Inv-loop μ-loop
-loop-again c =
-    let start = c .before .before .before in
-    let l = c .before .before .loop in
-    let new = start .args .memory .now in
-    (omega arith, filled-more (λ j. getD new j 0) (start .args .words .now) (l .words) (l .i) (l .inv .1) (omega arith) (getD new (l .i) 0) refl)
+loop-again c = (omega arith, filled-more (c .before .before .loop .inv .1) (omega arith) refl)
 
 same-length : tie.Need-same-length Inv-loop μ-loop
 same-length c = c .before .loop .inv .1 .sized
 
 returns : tie.Need-returns Inv-loop μ-loop
-returns c =
-    let start = c .before .before in
-    let l = c .before .loop in
-    filled-list (start .args .memory .now) (start .args .words .now) (l .words) (l .i) (l .inv .1) (omega arith)
+returns c = filled-list (c .before .before .args .memory .now) (c .before .loop .inv .1) (omega arith)
 
 pub copy-words-spec : {M : Type 1} → statement M
 copy-words-spec =

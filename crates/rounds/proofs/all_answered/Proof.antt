@@ -1,4 +1,4 @@
--- `all_answered` meets its contract.
+-- `all_answered` meets its contract: the marks of all requests are set.
 use borrow.Author.Needs.{needs}
 use Rattle.rounds.proofs.Draining.{answered-tells}
 use Rattle.rounds.proofs.all_answered.Statement.{statement}

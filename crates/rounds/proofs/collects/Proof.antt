@@ -1,7 +1,7 @@
--- `collects` meets its contract.
+-- `collects` meets its contract: a row of collects. The loop's invariant: the row up to the positions whose lengths are left. Its measure: those lengths.
 use native.Mathlib.Omega.{arith}
-use Rattle.shown.proofs.Levels.{collects-fit}
-use Rattle.rounds.proofs.Rows.{Alone, going-full, alone-begins, alone-ready, alone-rests, alone-goes}
+use Rattle.event.proofs.Steps.{collects-fit}
+use Rattle.rounds.proofs.Rows.{Alone, alone-begins, alone-asks, alone-rests, alone-goes}
 use Rattle.rounds.proofs.collects.Statement.{statement}
 use Rattle.rounds.proofs.collects.Tie as tie
 
@@ -21,9 +21,7 @@ first-busy-requires : tie.Need-first-busy-requires Inv-loop μ-loop
 first-busy-requires c κs = c .loop-test .taken
 
 collect-requires : tie.Need-collect-requires Inv-loop μ-loop
-collect-requires c κs =
-    let A = c .before .before .before .loop .inv in
-    (alone-ready A, going-full A (c .before .first-busy .ensures))
+collect-requires c κs = alone-asks (c .before .before .before .loop .inv) (c .before .first-busy .ensures)
 
 lengths-above-requires : tie.Need-lengths-above-requires Inv-loop μ-loop
 lengths-above-requires c κs = c .before .before .first-busy .ensures .within

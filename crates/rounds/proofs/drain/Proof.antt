@@ -1,4 +1,4 @@
--- `drain` meets its contract.
+-- `drain` meets its contract. The loop's invariant: the rounds so far came off the allowance. Its measure: the rounds left.
 use native.Mathlib.Omega.{arith}
 use borrow.Author.Needs.{needs}
 use Rattle.rounds.proofs.Whole.{ready-alone}

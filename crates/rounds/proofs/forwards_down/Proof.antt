@@ -1,4 +1,4 @@
--- `forwards_down` meets its contract.
+-- `forwards_down` meets its contract. The loop's invariant: the rows from the level down lead to the end. Its measure: the level.
 use native.Mathlib.Omega.{arith}
 use borrow.Author.Needs.{needs}
 use Rattle.rounds.proofs.Rows.{levels-within}

@@ -1,7 +1,7 @@
--- `issues` meets its contract.
+-- `issues` meets its contract: a row of issues, as that of collects.
 use native.Mathlib.Omega.{arith}
-use Rattle.shown.proofs.Levels.{issues-fit}
-use Rattle.rounds.proofs.Rows.{Alone, going-full, alone-begins, alone-ready, alone-rests, alone-goes}
+use Rattle.event.proofs.Steps.{issues-fit}
+use Rattle.rounds.proofs.Rows.{Alone, alone-begins, alone-asks, alone-rests, alone-goes}
 use Rattle.rounds.proofs.issues.Statement.{statement}
 use Rattle.rounds.proofs.issues.Tie as tie
 
@@ -21,9 +21,7 @@ first-busy-requires : tie.Need-first-busy-requires Inv-loop μ-loop
 first-busy-requires c κs = c .loop-test .taken
 
 issue-requires : tie.Need-issue-requires Inv-loop μ-loop
-issue-requires c κs =
-    let A = c .before .before .before .loop .inv in
-    (alone-ready A, going-full A (c .before .first-busy .ensures))
+issue-requires c κs = alone-asks (c .before .before .before .loop .inv) (c .before .first-busy .ensures)
 
 lengths-above-requires : tie.Need-lengths-above-requires Inv-loop μ-loop
 lengths-above-requires c κs = c .before .before .first-busy .ensures .within

@@ -1,4 +1,4 @@
--- `modules` meets its contract.
+-- `modules` meets its contract: a row of module steps, as that of collects.
 use native.Mathlib.Omega.{arith}
 use borrow.Author.Needs.{needs}
 use Rattle.rounds.proofs.Rows.{Served, levels-within, served-begins, served-ready, served-full, served-rests, served-goes}

@@ -1,4 +1,4 @@
--- `returns_up` meets its contract.
+-- `returns_up` meets its contract. The loop's invariant: the rows below the level were taken. Its measure: the levels left.
 use Prim.Native.Nat.{_-_}
 use native.Mathlib.Omega.{arith}
 use borrow.Author.Needs.{needs}

@@ -1,4 +1,4 @@
--- `round` meets its contract.
+-- `round` meets its contract: its five parts, one after another.
 use Rattle.rounds.proofs.Whole.{ready-alone, round-collects, round-returns, round-modules, round-forwards, round-issues}
 use Rattle.rounds.proofs.round.Statement.{statement}
 use Rattle.rounds.proofs.round.Tie as tie

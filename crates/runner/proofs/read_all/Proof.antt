@@ -13,79 +13,60 @@ Inv-loop buffer₀ got₀ reads₀ buffer got reads = (got ≤ length buffer) ×
 abbrev μ-loop : tie.MeasureT-loop
 μ-loop buffer₀ got₀ reads₀ buffer got reads = reads
 
--- src/main.rt:20:5
 loop-holds : tie.Need-loop-holds Inv-loop μ-loop
 loop-holds c = search needs
 
--- src/main.rt:22:13
 same-length : tie.Need-same-length Inv-loop μ-loop
 same-length c = search needs
 
--- src/main.rt:22:13
 returns : tie.Need-returns Inv-loop μ-loop
 returns c = (omega arith, sym (length-take-le _ _ (omega arith)))
 
--- src/main.rt:27:45
 sub-read : tie.Need-sub-read Inv-loop μ-loop
 sub-read c = search needs
 
--- src/main.rt:27:45
 part-read-start : tie.Need-part-read-start Inv-loop μ-loop
 part-read-start c = search needs
 
--- src/main.rt:27:45
 part-read-end : tie.Need-part-read-end Inv-loop μ-loop
 part-read-end c = search needs
 
--- src/main.rt:27:13
 read-requires : tie.Need-read-requires Inv-loop μ-loop
 read-requires c κs = search needs
 
--- src/main.rt:29:13
 same-length-2 : tie.Need-same-length-2 Inv-loop μ-loop
 same-length-2 c = search needs
 
--- src/main.rt:29:13
 returns-2 : tie.Need-returns-2 Inv-loop μ-loop
 returns-2 c = (omega arith, sym (length-take-le _ _ (omega arith)))
 
--- src/main.rt:34:32
 sub-count : tie.Need-sub-count Inv-loop μ-loop
 sub-count c = search needs
 
--- src/main.rt:34:32
 part-count-start : tie.Need-part-count-start Inv-loop μ-loop
 part-count-start c = search needs
 
--- src/main.rt:34:32
 part-count-end : tie.Need-part-count-end Inv-loop μ-loop
 part-count-end c = search needs
 
--- src/main.rt:34:16
 count-requires : tie.Need-count-requires Inv-loop μ-loop
 count-requires c κs = search needs
 
--- src/main.rt:34:9
 add-got : tie.Need-add-got Inv-loop μ-loop
 add-got c = search needs
 
--- src/main.rt:35:9
 sub-reads : tie.Need-sub-reads Inv-loop μ-loop
 sub-reads c = search needs
 
--- src/main.rt:20:5
 loop-less : tie.Need-loop-less Inv-loop μ-loop
 loop-less c = search needs
 
--- src/main.rt:20:5
 loop-again : tie.Need-loop-again Inv-loop μ-loop
 loop-again c = search needs
 
--- src/main.rt:15:1
 same-length-3 : tie.Need-same-length-3 Inv-loop μ-loop
 same-length-3 c = search needs
 
--- src/main.rt:15:1
 returns-3 : tie.Need-returns-3 Inv-loop μ-loop
 returns-3 c = search needs
 

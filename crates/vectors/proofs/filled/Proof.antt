@@ -5,27 +5,21 @@ use borrow.Author.Needs.{needs}
 use Rattle.vectors.proofs.filled.Statement.{statement}
 use Rattle.vectors.proofs.filled.Tie as tie
 
--- src/main.rt:36:9
 returns : tie.Need-returns
 returns c = search needs
 
--- src/main.rt:38:33
 slice-relend-prefix-read-full : tie.Need-slice-relend-prefix-read-full
 slice-relend-prefix-read-full c = search needs
 
--- src/main.rt:38:33
 slice-aggregate-read-full : tie.Need-slice-aggregate-read-full
 slice-aggregate-read-full c = sym (length-take-le _ _ (omega arith))
 
--- src/main.rt:38:5
 read-full-requires : tie.Need-read-full-requires
 read-full-requires c κs = search needs
 
--- src/main.rt:34:1
 same-length : tie.Need-same-length
 same-length c = search needs
 
--- src/main.rt:34:1
 returns-2 : tie.Need-returns-2
 returns-2 c = search needs
 

@@ -8,63 +8,48 @@ Inv-loop bytes at count i₀ n₀ i n = Unit {0}
 abbrev μ-loop : tie.MeasureT-loop
 μ-loop bytes at count i₀ n₀ i n = i
 
--- src/main.rt:18:5
 loop-holds : tie.Need-loop-holds Inv-loop μ-loop
 loop-holds c = search needs
 
--- src/main.rt:19:9
 sub-i : tie.Need-sub-i Inv-loop μ-loop
 sub-i c = search needs
 
--- src/main.rt:21:20
 sub-if2 : tie.Need-sub-if2 Inv-loop μ-loop
 sub-if2 c = search needs
 
--- src/main.rt:22:21
 mul-n : tie.Need-mul-n Inv-loop μ-loop
 mul-n c = search needs
 
--- src/main.rt:22:53
 add-wide : tie.Need-add-wide Inv-loop μ-loop
 add-wide c = search needs
 
--- src/main.rt:22:47
 shared-slice-read-wide : tie.Need-shared-slice-read-wide Inv-loop μ-loop
 shared-slice-read-wide c = search needs
 
--- src/main.rt:22:42
 wide-requires : tie.Need-wide-requires Inv-loop μ-loop
 wide-requires c κs = search needs
 
--- src/main.rt:22:21
 add-n : tie.Need-add-n Inv-loop μ-loop
 add-n c = search needs
 
--- src/main.rt:18:5
 loop-less : tie.Need-loop-less Inv-loop μ-loop
 loop-less c = search needs
 
--- src/main.rt:18:5
 loop-again : tie.Need-loop-again Inv-loop μ-loop
 loop-again c = search needs
 
--- src/main.rt:18:5
 loop-less-2 : tie.Need-loop-less-2 Inv-loop μ-loop
 loop-less-2 c = search needs
 
--- src/main.rt:18:5
 loop-again-2 : tie.Need-loop-again-2 Inv-loop μ-loop
 loop-again-2 c = search needs
 
--- src/main.rt:18:5
 loop-less-3 : tie.Need-loop-less-3 Inv-loop μ-loop
 loop-less-3 c = search needs
 
--- src/main.rt:18:5
 loop-again-3 : tie.Need-loop-again-3 Inv-loop μ-loop
 loop-again-3 c = search needs
 
--- src/main.rt:15:1
 returns : tie.Need-returns Inv-loop μ-loop
 returns c = search needs
 

@@ -5,19 +5,15 @@ use borrow.Author.Needs.{needs}
 use Rattle.vectors.proofs.show.Statement.{statement}
 use Rattle.vectors.proofs.show.Tie as tie
 
--- src/main.rt:44:38
 slice-aggregate-write-all : tie.Need-slice-aggregate-write-all
 slice-aggregate-write-all c = sym (length-take-le _ _ (omega arith))
 
--- src/main.rt:44:9
 write-all-requires : tie.Need-write-all-requires
 write-all-requires c κs = search needs
 
--- src/main.rt:42:1
 returns : tie.Need-returns
 returns c = search needs
 
--- src/main.rt:42:1
 returns-2 : tie.Need-returns-2
 returns-2 c = search needs
 

@@ -1,4 +1,4 @@
--- `wiring::width` meets its contract.
+-- `wiring::width` meets its contract: a shift by a k that is small.
 use native.Mathlib.Omega.{arith}
 use lib.Pow.{pow-mono}
 use Rattle.wiring.proofs.Shifts.{width-exact}

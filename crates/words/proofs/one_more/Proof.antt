@@ -14,7 +14,8 @@ shl-result : tie.Need-shl-result
 shl-result c = search needs
 
 add-result : tie.Need-add-result
-add-result c = let f : c .args .row < 2 ^ 64 = omega arith in record { fits = more-fits 4 16 (c .args .row) (c .args .p) refl (c .pre .0) f (omega (arith, c .pre .1)) }
+add-result c =
+    let f : c .args .row < 2 ^ 64 = omega arith in record { fits = more-fits 4 16 (c .args .row) (c .args .p) refl (c .pre .0) f (omega (arith, c .pre .1)) }
 
 returns : tie.Need-returns
 returns c = let f : c .args .row < 2 ^ 64 = omega arith in more-digits 4 16 (c .args .row) (c .args .p) refl (c .pre .0) f (omega (arith, c .pre .1))

@@ -26,7 +26,8 @@ shl-result-2 c = search needs
 
 add-result : tie.Need-add-result
 unfolding digit
-add-result c = let f : c .args .row < 2 ^ 64 = omega arith in record { fits = written-fits 4 16 (c .args .row) (c .args .p) refl (c .pre .0) f (c .args .n) (c .pre .1) }
+add-result c =
+    let f : c .args .row < 2 ^ 64 = omega arith in record { fits = written-fits 4 16 (c .args .row) (c .args .p) refl (c .pre .0) f (c .args .n) (c .pre .1) }
 
 returns : tie.Need-returns
 unfolding digit

@@ -12,7 +12,9 @@ add-self : tie.Need-add-self
 add-self c = search needs
 
 returns : tie.Need-returns
-returns c = let s = c .before .before in (tags-push (s .args .self .items) (s .args .self .len) (s .args .t) (c .before .with-lowest .result) (s .pre) (c .before .with-lowest .ensures), omega arith)
+returns c =
+    let s = c .before .before in
+    (tags-push (s .args .self .items) (s .args .self .len) (s .args .t) (c .before .with-lowest .result) (s .pre) (c .before .with-lowest .ensures), omega arith)
 
 pub push-spec : {M : Type 1} → statement M
 push-spec = tie.close (tie.spec with-lowest-requires add-self returns)

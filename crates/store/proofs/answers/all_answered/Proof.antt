@@ -39,7 +39,9 @@ same-marks-requires-2 : tie.Need-same-marks-requires-2
 same-marks-requires-2 c κs = search needs
 
 returns-2 : tie.Need-returns-2
-returns-2 c = let s = c .before .before .before .before .before .before .before .before in not-all (s .args .m .now) 1 (omega arith) (c .before .same-marks2 .ensures) (c .if2 .taken)
+returns-2 c =
+    let s = c .before .before .before .before .before .before .before .before in
+    not-all (s .args .m .now) 1 (omega arith) (c .before .same-marks2 .ensures) (c .if2 .taken)
 
 add-same-marks-3 : tie.Need-add-same-marks-3
 add-same-marks-3 c = search needs

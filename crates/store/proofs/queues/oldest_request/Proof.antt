@@ -12,7 +12,8 @@ load-requests-requires : tie.Need-load-requests-requires
 load-requests-requires c κs = (c .pre .0, c .pre .1 .1)
 
 oldest-requires : tie.Need-oldest-requires
-oldest-requires c κs = (c .load-requests .ensures .1, omega (arith, held-length (c .load-requests .result) _ (c .load-requests .ensures .0), c .before .pre .1 .0))
+oldest-requires c κs =
+    (c .load-requests .ensures .1, omega (arith, held-length (c .load-requests .result) _ (c .load-requests .ensures .0), c .before .pre .1 .0))
 
 returns : tie.Need-returns
 returns c = c .oldest .ensures ∙ ap (λ (l : List ℕ). getD l 0 0) (c .before .load-requests .ensures .0)

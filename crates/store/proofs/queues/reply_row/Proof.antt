@@ -1,4 +1,4 @@
--- `reply_row` meets its contract.
+-- `reply_row` meets its contract: the word of a level's lengths.
 use borrow.Author.Needs.{needs}
 use Rattle.store.proofs.Queued.{reply-row}
 use Rattle.store.proofs.queues.reply_row.Statement.{statement}

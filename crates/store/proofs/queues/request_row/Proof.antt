@@ -1,4 +1,4 @@
--- `request_row` meets its contract.
+-- `request_row` meets its contract: the word of a level's lengths.
 use borrow.Author.Needs.{needs}
 use Rattle.store.proofs.Queued.{request-row}
 use Rattle.store.proofs.queues.request_row.Statement.{statement}

@@ -23,7 +23,9 @@ element-write-m : tie.Need-element-write-m
 element-write-m c = search needs
 
 returns : tie.Need-returns
-returns c = let s = c .before .before in after-set (s .args .m .now) (s .pre .0) (s .args .t) (s .pre .1 .0) (s .args .n) (c .with-after .result) (s .pre .1 .1) (c .with-after .ensures)
+returns c =
+    let s = c .before .before in
+    after-set (s .args .m .now) (s .pre .0) (s .args .t) (s .pre .1 .0) (s .args .n) (c .with-after .result) (s .pre .1 .1) (c .with-after .ensures)
 
 pub set-after-spec : {M : Type 1} → statement M
 set-after-spec =

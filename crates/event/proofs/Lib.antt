@@ -1,0 +1,2 @@
+-- The laws of which events name a step.
+pub mod Steps
