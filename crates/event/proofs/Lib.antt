@@ -1,2 +1,3 @@
 -- The laws of which events name a step.
 pub mod Steps
+pub mod Levels

@@ -1,11 +1,10 @@
 -- After a record that is not refused the loop knows what the items say with it.
-use Prim.Native.Nat.{ℕ, _+_, _<_}
+use Prim.Native.Nat.{ℕ, _<_}
 use mathlib.Core.Path.{_≡_, refl, ap, sym, _∙_}
 use mathlib.Core.Logic.{_≢_}
 use mathlib.Core.List.{List, [], _∷_, _++_}
 use native.Mathlib.Decide.{ℕ-discrete}
 use native.Mathlib.Omega.{arith}
-use native.Mathlib.Nat.{add-zero}
 use lib.ListN.{length, getD, set, length-append, length-set}
 use lib.Seq.{getD-set-same, getD-set-other}
 use borrow.Author.Tests.{eq-eqb, ne-eqb}
@@ -15,7 +14,7 @@ use Rattle.event.specs.Event.{Act}
 use Rattle.view.specs.View.{View}
 use Rattle.trace.specs.Bytes.{total}
 use Rattle.trace.specs.Item.{Shape, Word, Request, shape, word, request, act, Items}
-use Rattle.trace.specs.Table.{bodySize, partsOf, rowOf, section, recordSize, size}
+use Rattle.trace.specs.Table.{partsOf, recordSize, size}
 use Rattle.trace.specs.Contents.{contents, add, shapeOf, wordsGiven, requestsOf, given, startWords, lastSection, actsAt}
 use Rattle.trace.specs.Refusals.{fault}
 use Rattle.trace.specs.Known.{movedPast, shaped, asked, Same}

@@ -2,13 +2,13 @@
 use Prim.Native.Nat.{ℕ}
 use mathlib.Core.Path.{_≡_, refl, ap, sym, _∙_}
 use mathlib.Core.List.{List}
+use Rattle.lists.proofs.Tests.{clash}
 use Rattle.trace.specs.Item.{Items}
 use Rattle.trace.specs.Table.{size}
 use Rattle.trace.specs.Check.{Verdict, refused, accepted, check}
 use Rattle.trace.specs.Answers.{numberOf, refusal, answered}
 use Rattle.trace.specs.declared.Fault.{Fault}
 use Rattle.trace.specs.declared.Answer.the-variants.{Refused}
-use Rattle.trace.proofs.Tests.{clash}
 use Rattle.load.specs.Loaded.{Loaded}
 
 pub record Closed (s : List ℕ) (f : Fault) (at : ℕ) : Type 0 where

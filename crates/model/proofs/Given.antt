@@ -7,10 +7,10 @@ use native.Mathlib.Omega.{arith}
 use lib.ListN.{length}
 use lib.Dec.{leb}
 use borrow.Author.Tests.{leb-true}
+use Rattle.lists.proofs.Tests.{both-true}
 use Rattle.store.specs.Memory.{view}
 use Rattle.trace.specs.Item.{Items}
 use Rattle.trace.specs.Contents.{requestsOf}
-use Rattle.trace.proofs.Tests.{both-true}
 use Rattle.results.specs.Copied.{over, valuesIn, marksIn}
 use Rattle.run.specs.Results.{Results, resultsOf}
 use Rattle.run.specs.Run.{RanTo}

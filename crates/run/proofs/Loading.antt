@@ -2,12 +2,12 @@
 use Prim.Native.Nat.{ℕ}
 use mathlib.Core.Path.{_≡_, refl, sym, _∙_, ap}
 use mathlib.Core.List.{List}
+use Rattle.lists.proofs.Tests.{clash}
 use Rattle.trace.specs.Check.{Verdict, refused, accepted, itemsOf, check}
 use Rattle.trace.specs.Answers.{factsOf, acceptance, answered, tells}
 use Rattle.trace.specs.declared.Facts.{Facts}
 use Rattle.trace.specs.declared.Answer.{Answer}
 use Rattle.trace.specs.declared.Answer.the-variants.{Accepted}
-use Rattle.trace.proofs.Tests.{clash}
 use Rattle.load.specs.Loaded.{Loaded}
 use Rattle.run.specs.Run.{Loading}
 

@@ -6,15 +6,15 @@ use lib.Dec.{ltb}
 use lib.Pow.{pow-pos}
 use Rattle.lists.specs.Search.{All, cons}
 use Rattle.lists.proofs.Every.{all-map}
+use Rattle.lists.proofs.Tests.{both-true}
 use Rattle.event.specs.Event.{Act, namesStep, levelFits}
+use Rattle.trace.specs.Item.{Request, Items}
+use Rattle.trace.specs.Contents.{shapeOf, requestsOf, requestAt, actsOf}
+use Rattle.trace.specs.Ranges.{RequestIn, ActIn, InRange}
 use Rattle.machine.specs.Order.{Named}
 use Rattle.machine.specs.Lawful.{Lawful}
 use Rattle.shown.specs.Network.{Ranges}
 use Rattle.shown.proofs.Reaching.{ranges-lawful}
-use Rattle.trace.specs.Item.{Request, Items}
-use Rattle.trace.specs.Contents.{shapeOf, requestsOf, requestAt, actsOf}
-use Rattle.trace.specs.Ranges.{RequestIn, ActIn, InRange}
-use Rattle.trace.proofs.Tests.{both-true}
 use Rattle.run.specs.Results.{setupOf}
 use Rattle.run.specs.Run.{networkOf}
 

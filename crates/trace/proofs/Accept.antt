@@ -10,13 +10,13 @@ use lib.Seq.{take-at}
 use lib.Dec.{ltb}
 use borrow.Author.Tests.{ltb-false, le-ltb}
 use Rattle.lists.specs.Choice.{choose}
+use Rattle.lists.proofs.Tests.{clash}
 use Rattle.trace.specs.Bytes.{AreBytes}
 use Rattle.trace.specs.Item.{Item, Items, none, after}
 use Rattle.trace.specs.Table.{size, recordOf, traceOf, AllFitBytes, none-fit, after-fit}
 use Rattle.trace.specs.Records.{Records, done, broken, next, records, recordsUpTo}
 use Rattle.trace.specs.Refusals.{fault}
 use Rattle.trace.specs.Check.{refused, accepted, ended, decide, checkRecords, check, Valid, valid-none, valid-after}
-use Rattle.trace.proofs.Tests.{clash}
 use Rattle.trace.proofs.Records.{records-done}
 use Rattle.trace.proofs.Written.{length-record, records-written, first-of}
 

@@ -8,6 +8,8 @@ use native.Mathlib.Nat.{add-zero, add-assoc}
 use lib.ListN.{length, getD, take, drop, length-append, length-drop}
 use lib.Seq.{drop-drop, drop-at, drop-length, drop-append-le, getD-drop}
 use Rattle.lists.specs.Search.{All, nil, cons}
+use Rattle.lists.proofs.Tests.{clash}
+use Rattle.lists.proofs.Every.{all-more}
 use Rattle.event.specs.Event.{Event, Act}
 use Rattle.trace.specs.Bytes.{AreBytes, number, bytes, fieldBytes, total}
 use Rattle.trace.specs.Item.{Item, shape, word, request, act, Items, none, after}
@@ -18,11 +20,10 @@ use Rattle.trace.specs.Check.{accepted, check, Valid, valid-after}
 use Rattle.trace.specs.Ranges.{EventBytes}
 use Rattle.trace.specs.Acts.{actSize, ActFits, actsSize, actOffset, actsWritten, Left, due}
 use Rattle.trace.specs.declared.acts.Due.the-variants.{End, Event as EventDue, Drain}
-use Rattle.trace.proofs.Tests.{clash}
 use Rattle.trace.proofs.Numbers.{number-drop, number-bytes}
 use Rattle.trace.proofs.Written.{length-record}
 use Rattle.trace.proofs.Accept.{accepted-is, length-trace}
-use Rattle.trace.proofs.Ranges.{all-more, act-section, event-bytes, drain-bytes, in-order, follow-low}
+use Rattle.trace.proofs.Ranges.{act-section, event-bytes, drain-bytes, in-order, follow-low}
 
 acts-written-more : (front : List Act) (a : Act) → actsWritten (front ++ (a ∷ [])) ≡ actsWritten front ++ recordOf (act a)
 unfolding actsWritten

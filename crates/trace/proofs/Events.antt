@@ -10,29 +10,20 @@ use lib.Dec.{eqb, ltb, lit<, lit≤}
 use lib.ListN.{getD}
 use borrow.Author.Tests.{eqb-true, ltb-true, lt-ltb}
 use Rattle.lists.specs.Choice.{both}
-use Rattle.lists.proofs.Tests.{by-cases}
+use Rattle.lists.proofs.Tests.{by-cases, both-true, both-assoc, both-yes}
 use Rattle.words.specs.Digits.{digit, byteIn}
 use Rattle.words.proofs.Digits.{digit-zero, digit-suc}
 use Rattle.event.specs.Event.{levelFits, namesStep}
+use Rattle.event.proofs.Levels.{step-in}
 use Rattle.trace.specs.Bytes.{AreBytes, number}
 use Rattle.trace.specs.Masked.{headerFits, eventBytes, isEvent, maskTells, Mask, Steps}
-use Rattle.trace.proofs.Tests.{both-true}
 use Rattle.trace.proofs.Numbers.{byte-number, number-join, number-below}
-use Rattle.trace.proofs.Levels.{step-in}
 use Rattle.trace.proofs.Masks.{Field, is, under, maskOf, valueOf, asked, mask, value, fits, masked}
 
 -- ---- the mask
 fields : (k : ℕ) → k ≤ 8 → List Field
 fields k h =
     is 3 (lit< tt) ∷ is 0 (lit< tt) ∷ is 4 (lit< tt) ∷ is 0 (lit< tt) ∷ under 3 (lit≤ tt) ∷ under 3 (lit≤ tt) ∷ under k h ∷ []
-
-both-assoc : (a b c : Bool) → both (both a b) c ≡ both a (both b c)
-both-assoc true b c = refl
-both-assoc false b c = refl
-
-both-yes : (a : Bool) → both a true ≡ a
-both-yes true = refl
-both-yes false = refl
 
 fields-tell : (k : ℕ) (h : k ≤ 8) (w : ℕ) → fits 0 (fields k h) w ≡ maskTells k w
 unfolding fields fits asked maskTells headerFits

@@ -13,6 +13,5 @@ pub mod Known
 pub mod Masks
 pub mod Events
 pub mod Runs
-pub mod Levels
 pub mod Answers
 pub mod Held

@@ -3,29 +3,27 @@ use Prim.Native.Nat.{ℕ, _≤_, _<_, _^_}
 use mathlib.Core.Path.{_≡_, refl, sym, subst}
 use mathlib.Core.Logic.{_≢_}
 use mathlib.Core.Bool.{Bool, true, false, not}
-use mathlib.Core.List.{List, [], _∷_, _++_}
+use mathlib.Core.List.{List, [], _∷_}
 use native.Mathlib.Omega.{arith}
 use lib.ListN.{length, length-append}
 use lib.Dec.{eqb, ltb, leb}
 use borrow.Author.Tests.{eqb-true, eqb-false, leb-true, ltb-true}
 use Rattle.lists.specs.Choice.{choose, both}
-use Rattle.lists.specs.Search.{All, nil, cons}
+use Rattle.lists.specs.Search.{All, nil}
+use Rattle.lists.proofs.Every.{all-more}
+use Rattle.lists.proofs.Tests.{clash, both-true}
+use Rattle.operation.specs.Operation.{operandsFit}
 use Rattle.event.specs.Event.{Event, Act, event, drain, namesStep}
 use Rattle.trace.specs.Bytes.{AreBytes, field-fits}
 use Rattle.trace.specs.Item.{Shape, Word, Request, Item, shape, word, request, act, Items, none, after}
 use Rattle.trace.specs.Table.{partsOf, section, FitsBytes, AllFitBytes, after-fit}
 use Rattle.trace.specs.Contents.{contents, add, shapeOf, wordsGiven, requestsOf, actsOf, lastSection}
-use Rattle.operation.specs.Operation.{operandsFit}
 use Rattle.trace.specs.Refusals.{unless, orElse, mayFollow, shapeFits, requestFits, ownFault, fault}
 use Rattle.trace.specs.Check.{accepted, check, Valid, valid-after}
-use Rattle.trace.specs.Ranges.{WordBytes, RequestBytes, EventBytes, ShapeIn, RequestIn, EventIn, ActIn, InRange}
-use Rattle.trace.proofs.Tests.{clash, both-true, unless-zero, or-else-zero}
+use Rattle.trace.specs.Ranges.{WordBytes, RequestBytes, EventBytes, ShapeIn, RequestIn, ActIn, InRange}
+use Rattle.trace.proofs.Tests.{unless-zero, or-else-zero}
 use Rattle.trace.proofs.Table.{item-right}
 use Rattle.trace.proofs.Accept.{Accepted, accepted-is}
-
-pub all-more : {A : Type 0} {P : A → Type 0} {xs : List A} {x : A} → All P xs → P x → All P (xs ++ (x ∷ []))
-all-more nil p = cons p nil
-all-more (cons q qs) p = cons q (all-more qs p)
 
 -- an item that is not refused may follow, and has no fault of its own
 pub in-order : (before : Items) (x : Item) → fault before x ≡ 0 → mayFollow (lastSection before) (section x) ≡ true

@@ -10,6 +10,7 @@ use lib.Seq.{drop-drop, length-take-le}
 use lib.Dec.{eqb, ltb}
 use borrow.Author.Tests.{le-ltb, ne-eqb, ltb-false}
 use Rattle.lists.specs.Choice.{choose}
+use Rattle.lists.proofs.Tests.{clash}
 use Rattle.trace.specs.Bytes.{number}
 use Rattle.trace.specs.Table.{isRow, kindRow, bodyRow, item}
 use Rattle.trace.specs.Records.{Split, nothing, faulty, whole, split, Records, done, broken, next, divided, recordsUpTo, records}
@@ -17,7 +18,6 @@ use Rattle.trace.specs.Answers.{RecordFits}
 use Rattle.trace.specs.Known.{listing, Bodied}
 use Rattle.trace.specs.declared.record.Listed.{Listed}
 use Rattle.trace.specs.declared.record.Listed.the-variants.{NoKind, NoLength, In}
-use Rattle.trace.proofs.Tests.{clash}
 use Rattle.trace.proofs.Numbers.{number-drop}
 use Rattle.trace.proofs.Table.{row-told, row-sizes}
 

@@ -9,10 +9,11 @@ use lib.ListN.{length, getD, take, drop, length-drop}
 use lib.Dec.{eqb}
 use borrow.Author.Tests.{eqb-true}
 use lib.Seq.{drop-drop, getD-take, getD-drop}
+use Rattle.lists.proofs.Tests.{clash}
 use Rattle.event.specs.Event.{Event, Act, event, drain, namesStep}
-use Rattle.trace.specs.Bytes.{AreBytes, number, fieldsIn, total}
+use Rattle.trace.specs.Bytes.{AreBytes, number, total}
 use Rattle.trace.specs.Item.{Shape, act, Items, after}
-use Rattle.trace.specs.Table.{Row, rows, bodySize, isRow, firstRow, bodyRow, item, partsOf, recordSize, size}
+use Rattle.trace.specs.Table.{rows, isRow, firstRow, bodyRow, item, partsOf, recordSize, size}
 use Rattle.trace.specs.Records.{next, records}
 use Rattle.trace.specs.Contents.{shapeOf, lastSection}
 use Rattle.trace.specs.Refusals.{fault, orElse, mayFollow, ownFault}
@@ -20,7 +21,6 @@ use Rattle.trace.specs.Check.{decide, checkRecords}
 use Rattle.trace.specs.Acts.{actSize}
 use Rattle.trace.specs.Known.{eventIn, Same, Passed, DrainsPassed, FourDrains}
 use Rattle.trace.specs.Masked.{Mask, Steps, TellsEvent}
-use Rattle.trace.proofs.Tests.{clash}
 use Rattle.trace.proofs.Numbers.{number-drop, number-join, number-below}
 use Rattle.trace.proofs.Table.{row-told, row-sizes, says-event, says-drain}
 use Rattle.trace.proofs.Records.{Whole, is-whole, body-size, records-whole}

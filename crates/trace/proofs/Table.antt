@@ -10,6 +10,7 @@ use lib.Dec.{ltb, eqb}
 use borrow.Author.Tests.{ltb-true, eqb-true, ne-eqb}
 use Rattle.lists.specs.Choice.{choose, both}
 use Rattle.lists.specs.Search.{All, nil, cons}
+use Rattle.lists.proofs.Tests.{both-true, clash}
 use Rattle.event.specs.Event.{Act, event, drain}
 use Rattle.trace.specs.Bytes.{number, fieldsIn, total}
 use Rattle.trace.specs.Item.{Item, shape, word, request, act}
@@ -17,7 +18,6 @@ use Rattle.trace.specs.Table.{Row, shapeRow, wordRow, requestRow, eventR
 use Rattle.trace.specs.Known.{shapeIn, wordIn, requestIn, eventIn, Bodied, moved, movedPast}
 use Rattle.trace.specs.declared.progress.Progress.{Progress}
 use Rattle.trace.specs.declared.record.Listed.the-variants.{NoLength, In}
-use Rattle.trace.proofs.Tests.{both-true, clash}
 use Rattle.trace.proofs.Numbers.{number-one}
 use Rattle.trace.proofs.Fields.{length-fields}
 

@@ -4,16 +4,8 @@ use mathlib.Core.Path.{_≡_, refl}
 use mathlib.Core.Bool.{Bool, true, false, not}
 use native.Mathlib.Omega.{arith}
 use lib.Dec.{eqb}
-use Rattle.lists.specs.Choice.{choose, both}
+use Rattle.lists.specs.Choice.{choose}
 use Rattle.trace.specs.Refusals.{unless, orElse}
-
--- 0 and 1 differ
-pub clash : {G : Type 0} → _≡_ {A = ℕ} 0 1 → G
-clash z = let f : ⊥ = omega arith in elim f [ ]
-
-pub both-true : (t u : Bool) → both t u ≡ true → (t ≡ true) × (u ≡ true)
-both-true true u h = (refl, h)
-both-true false u h = clash (cc)
 
 pub unless-zero : (t : Bool) (n : ℕ) → unless t (suc n) ≡ 0 → t ≡ true
 unless-zero true n h = refl

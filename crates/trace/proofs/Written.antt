@@ -1,16 +1,16 @@
 -- An item's record, written and read: what is written is read back, and of bytes that are read as an item, the item's record is written again.
-use Prim.Native.Nat.{ℕ, _+_, _≤_, _<_}
+use Prim.Native.Nat.{ℕ, _+_}
 use mathlib.Core.Path.{_≡_, refl, ap, sym, _∙_, subst}
 use mathlib.Core.Bool.{true}
 use mathlib.Core.List.{List, [], _++_, append-assoc, append-nil}
 use native.Mathlib.Omega.{arith}
 use lib.ListN.{length, take, drop, length-append, take-append-drop}
 use lib.Seq.{take-add, take-at, drop-at, take-all}
-use Rattle.trace.specs.Bytes.{AreBytes, number, bytes, fieldsIn, fieldBytes, total, FieldsFit}
+use Rattle.lists.proofs.Tests.{clash}
+use Rattle.trace.specs.Bytes.{AreBytes, bytes, fieldsIn, fieldBytes, FieldsFit}
 use Rattle.trace.specs.Item.{Item}
 use Rattle.trace.specs.Table.{Row, bodySize, isRow, bodyRow, item, Parts, partsOf, rowOf, recordSize, recordOf, FitsBytes}
 use Rattle.trace.specs.Records.{Split, nothing, faulty, whole, split, Records, next, divided, records}
-use Rattle.trace.proofs.Tests.{clash}
 use Rattle.trace.proofs.Numbers.{bytes-drop, bytes-take, bytes-number, number-bytes}
 use Rattle.trace.proofs.Fields.{length-field-bytes, fields-written, fields-fit, fields-again}
 use Rattle.trace.proofs.Table.{item-right, row-told, row-sizes, item-is, parts-item}

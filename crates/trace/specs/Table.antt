@@ -5,9 +5,9 @@ use mathlib.Core.List.{List, [], _∷_, _++_}
 use lib.ListN.{length, getD}
 use lib.Dec.{eqb}
 use Rattle.lists.specs.Choice.{choose, both}
-use Rattle.event.specs.Event.{Act, event, drain}
+use Rattle.event.specs.Event.{event, drain}
 use Rattle.trace.specs.Bytes.{bytes, fieldsIn, fieldBytes, total, FieldsFit}
-use Rattle.trace.specs.Item.{Shape, Word, Request, Item, shape, word, request, act, Items, none, after}
+use Rattle.trace.specs.Item.{Item, shape, word, request, act, Items, none, after}
 
 -- "kind", the section in which its records stand, from 1; "body", the widths of its fields in bytes; and the item with such fields
 pub record Row : Type 0 where

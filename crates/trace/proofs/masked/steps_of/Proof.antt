@@ -1,7 +1,15 @@
+-- `steps_of` meets its contract: width by width.
+use Prim.Native.Nat.{ℕ, _≤_}
+use mathlib.Core.Path.{_≡_}
+use mathlib.Core.Logic.{_≢_}
+use native.Mathlib.Omega.{arith}
 use Rattle.trace.proofs.Events.{steps-0, steps-1, steps-2, steps-3, steps-4}
-use Rattle.trace.proofs.Levels.{four-left}
 use Rattle.trace.proofs.masked.steps_of.Statement.{statement}
 use Rattle.trace.proofs.masked.steps_of.Tie as tie
+
+-- the last of the widths
+four-left : (k : ℕ) → k ≤ 4 → k ≢ 0 → k ≢ 1 → k ≢ 2 → k ≢ 3 → k ≡ 4
+four-left k most n₀ n₁ n₂ n₃ = omega arith
 
 returns : tie.Need-returns
 returns c = rw (c .match .keys1) steps-0

@@ -1,7 +1,8 @@
 use mathlib.Core.Path.{sym}
 use borrow.Author.Tests.{le-leb, lt-leb}
 use borrow.Author.Needs.{needs}
-use Rattle.trace.proofs.Levels.{level-range, no-step}
+use Rattle.event.proofs.Steps.{no-step}
+use Rattle.event.proofs.Levels.{level-range}
 use Rattle.trace.proofs.rules.level_fits.Statement.{statement}
 use Rattle.trace.proofs.rules.level_fits.Tie as tie
 
