@@ -7,9 +7,9 @@ use native.Mathlib.Numerals.{add-one}
 use native.Mathlib.Omega.{arith}
 use lib.ListN.{length, getD, drop, replicate, List·getD-append}
 use Rattle.lists.proofs.Below.{length-below}
-use Rattle.text.specs.Text.{replyLine, orderLine, replyLines, orderLines, wordLines, countLines, acceptedText}
-use Rattle.text.specs.Written.{Wrote, Reported as Printed, lineRoom}
-use Rattle.text.proofs.Written.{wrote-then, wrote-reported}
+use Rattle.digits.specs.Buffer.{Wrote, Printed}
+use Rattle.digits.proofs.Buffer.{wrote-then, wrote-printed}
+use Rattle.text.specs.Text.{lineRoom, replyLine, orderLine, replyLines, orderLines, wordLines, countLines, acceptedText}
 use Rattle.text.proofs.Sections.{Section, replies, orders}
 use Rattle.view.specs.View.{View}
 use Rattle.results.specs.Copied.{over, valueIn, valuesIn, markIn, marksIn}
@@ -57,4 +57,4 @@ pub printed-sections : (v : View) (words named : List ℕ) {before one two three
 unfolding acceptedText
 printed-sections v words named {three = three} {after = after} {d = d} {r = r} first second third accesses-are merges-are rounds-are last room =
     let counts : Wrote three d (countLines (v .accesses) (v .merges) (v .rounds)) after r = rw (← accesses-are, ← merges-are, ← rounds-are) last in
-    wrote-reported (wrote-then (wrote-then (wrote-then first second) third) counts) room
+    wrote-printed (wrote-then (wrote-then (wrote-then first second) third) counts) room

@@ -8,9 +8,9 @@ use lib.ListN.{length}
 use borrow.Author.Tests.{le-leb, lt-leb}
 use Rattle.lists.specs.Table.{listBelow}
 use Rattle.lists.proofs.Below.{length-below}
+use Rattle.digits.specs.Buffer.{Printed}
+use Rattle.digits.proofs.Buffer.{printed-within, printed-text}
 use Rattle.text.specs.Text.{acceptedText, refusedText}
-use Rattle.text.specs.Written.{Reported as Printed, reportRoom}
-use Rattle.text.proofs.Written.{reported-within, reported-text}
 use Rattle.view.specs.View.{View}
 use Rattle.store.specs.Memory.{view}
 use Rattle.results.specs.Copied.{valueIn, valuesIn, marksIn}
@@ -31,7 +31,7 @@ use Rattle.run.specs.Run.{itemsIn, Loading, RanTo}
 use Rattle.run.proofs.Results.{resultsIn, results-are}
 use Rattle.report.specs.Names.{Marked}
 use Rattle.report.specs.Lines.{Printable, textIn}
-use Rattle.report.specs.Written.{Reported}
+use Rattle.report.specs.Written.{reportRoom, Reported}
 use Rattle.report.proofs.Names.{trace-named}
 
 -- ---- a refused trace
@@ -92,5 +92,5 @@ reported-fits trace before room w =
       fits-is = sym yes;
       len-is = w .size ∙ rw yes;
       text-is = w .bytes ∙ rw yes;
-      counts = (reported-within w, w .size ∙ ap length (sym (reported-text w)));
+      counts = (printed-within w, w .size ∙ ap length (sym (printed-text w)));
     }

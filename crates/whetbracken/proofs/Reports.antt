@@ -7,10 +7,11 @@ use native.Mathlib.Omega.{arith}
 use lib.ListN.{length, length-append}
 use lib.Dec.{leb}
 use Rattle.lists.specs.Choice.{choose}
-use Rattle.text.specs.Text.{bytesOf, replyLines, orderLines, wordLines, countLines, acceptedText, refusedText}
-use Rattle.text.specs.Written.{reportRoom}
+use Rattle.digits.specs.Numeral.{bytesOf}
+use Rattle.text.specs.Text.{replyLines, orderLines, wordLines, countLines, acceptedText, refusedText}
 use Rattle.trace.specs.Check.{Verdict, refused, accepted, check}
 use Rattle.report.specs.Report.{textOf, reported, report}
+use Rattle.report.specs.Written.{reportRoom}
 use Rattle.whetbracken.specs.Interface.{Wrote}
 
 some-last : (a b c d : List ℕ) → 0 < length d → 0 < length (a ++ b ++ c ++ d)
