@@ -1,5 +1,5 @@
 -- Laws of numerals: their length, their digits, no leading zero, and that they spell their number.
-use Prim.Native.Nat.{ℕ, zero, suc, _+_, _*_, _/_, _%_, _^_, _≤_, _<_}
+use Prim.Native.Nat.{ℕ, zero, suc, _+_, _/_, _%_, _^_, _≤_, _<_}
 use mathlib.Core.Path.{_≡_, refl, sym, _∙_, ap}
 use mathlib.Core.Logic.{_≢_}
 use mathlib.Core.List.{List, [], _∷_, _++_}
@@ -18,7 +18,7 @@ unfolding valueFrom
 valueFrom-append base n [] es = refl
 valueFrom-append base n (d ∷ ds) es = valueFrom-append base _ ds es
 
-module _ (base : ℕ) (more : 1 < base) where
+module _ (base : ℕ) (two : 2 ≤ base) where
   in-one : (most n : ℕ) → n < base → numeralIn base (suc most) n ≡ digit n ∷ []
   unfolding numeralIn
   in-one most n h = rw (lt-ltb n base h, numeralIn)
@@ -28,7 +28,7 @@ module _ (base : ℕ) (more : 1 < base) where
   in-more most n h = rw (le-ltb n base h, numeralIn)
 
   rest-less : (n : ℕ) → base ≤ n → n / base < n
-  rest-less n h = div-lt-self (omega arith) more
+  rest-less n h = div-lt-self (omega arith) two
 
   in-enough : (m k n : ℕ) → n < m → n < k → numeralIn base m n ≡ numeralIn base k n
   in-enough zero k n hm hk = absurd (omega arith)

@@ -59,9 +59,11 @@ module _ {trace : List ℕ} {facts : Facts} {m words : List ℕ} (o : Loading tr
 -- ---- and once it is run
 text-in : (n : ℕ) (v : View) (words names : List ℕ) → v .fixed .count ≡ n → textOf (resultsIn n v words) names ≡ textIn v words names
 unfolding textOf
-text-in n v words names e =
-    ap (λ (k : ℕ). acceptedText k (valuesIn v n) (marksIn v n) (length (v .order)) (v .order) words names (v .accesses) (v .merges) (v .rounds)) (length-below n (valueIn v))
-    ∙ sym (ap (λ (k : ℕ). acceptedText k (valuesIn v k) (marksIn v k) (length (v .order)) (v .order) words names (v .accesses) (v .merges) (v .rounds)) e)
+text-in n v words names e = ap (text n) (length-below n (valueIn v)) ∙ sym (ap (λ (k : ℕ). text k k) e)
+  where
+    text : ℕ → ℕ → List ℕ
+    text places count =
+        acceptedText count (valuesIn v places) (marksIn v places) (length (v .order)) (v .order) words names (v .accesses) (v .merges) (v .rounds)
 
 module _ {items : Items} {m words : List ℕ} (r : RanTo items m words) where
   pub ran-printable : Printable (view m)

@@ -21,10 +21,12 @@ counts-some : (accesses merges rounds : ℕ) → 0 < length (countLines accesses
 unfolding countLines bytesOf
 counts-some accesses merges rounds = omega arith
 
-accepted-some : (R : ℕ) (values marks : List ℕ) (n : ℕ) (order words named : List ℕ) (accesses merges rounds : ℕ) → 0 < length (acceptedText R values marks n order words named accesses merges rounds)
+accepted-some : (R : ℕ) (values marks : List ℕ) (n : ℕ) (order words named : List ℕ) (accesses merges rounds : ℕ) →
+    0 < length (acceptedText R values marks n order words named accesses merges rounds)
 unfolding acceptedText
 accepted-some R values marks n order words named accesses merges rounds =
-    some-last (replyLines R values marks) (orderLines n order) (wordLines 256 words named) (countLines accesses merges rounds) (counts-some accesses merges rounds)
+    let sections = some-last (replyLines R values marks) (orderLines n order) (wordLines 256 words named) (countLines accesses merges rounds) in
+    sections (counts-some accesses merges rounds)
 
 verdict-some : (v : Verdict) → 0 < length (reported v)
 unfolding reported textOf refusedText bytesOf
