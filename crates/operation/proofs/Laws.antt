@@ -1,27 +1,34 @@
 -- The laws of the add, of merging, and of codes and operands: document 01, "Operations".
-use mathlib.Core.Path.{_≡_, refl, subst}
-use Prim.Native.Nat.{ℕ, _^_, _<_}
+use mathlib.Core.Path.{_≡_, refl, ap, subst}
+use Prim.Native.Nat.{ℕ, _+_, _^_, _<_}
+use native.Mathlib.Nat.{add-comm}
 use native.Mathlib.Omega.{arith}
 use lib.Bits.{and-lt, xor-lt}
 use Rattle.operation.specs.declared.Operation.{Operation}
 use Rattle.operation.specs.declared.Operation.the-variants.{Load, Swap, Add, Mask}
 use Rattle.operation.specs.declared.Merged.{Merged}
 use Rattle.operation.specs.declared.Merged.the-variants.{One, Never}
-use Rattle.operation.specs.Operation.{sum, applied, merged, operationOf, codeOf, firstOperand, secondOperand}
+use Rattle.operation.specs.Operation.{cut, sum, applied, merged, operationOf, codeOf, firstOperand, secondOperand}
 use Rattle.operation.proofs.Bits.{and-assoc, xor-assoc, and-xor}
 
--- ---- sum: the only laws that see its text
+-- ---- cut: the only laws that see its text
+pub cut-below : (n : ℕ) → cut n < 2 ^ 64
+unfolding cut
+cut-below n = omega arith
+
+-- the cut may be taken inside
+pub cut-inside : (x y : ℕ) → cut (cut x + y) ≡ cut (x + y)
+unfolding cut
+cut-inside x y = omega arith
+
+-- ---- sum
 pub sum-below : (x y : ℕ) → sum x y < 2 ^ 64
 unfolding sum
-sum-below x y = omega arith
-
-pub sum-zero : (x : ℕ) → x < 2 ^ 64 → sum x 0 ≡ x
-unfolding sum
-sum-zero x h = omega arith
+sum-below x y = cut-below (x + y)
 
 pub sum-assoc : (x y z : ℕ) → sum x (sum y z) ≡ sum (sum x y) z
 unfolding sum
-sum-assoc x y z = omega arith
+sum-assoc x y z = rw (add-comm x (cut (y + z)), cut-inside (y + z) x, cut-inside (x + y) z) (ap cut (omega arith))
 
 -- ---- codes
 -- an operation's code is a byte: what holds it in memory needs no other law of codes
@@ -32,33 +39,7 @@ code-byte (Swap v) = omega arith
 code-byte (Add a) = omega arith
 code-byte (Mask a b) = omega arith
 
--- ---- merged, by the document's rules
--- "load then g is g"
-pub load-then : (g : Operation) → merged Load g ≡ One g
-unfolding merged
-load-then g = refl
-
--- "f then load is f": a swap of load(v) is that swap
-pub then-load : (f : Operation) → merged f Load ≡ One f
-unfolding merged applied
-then-load Load = refl
-then-load (Swap v) = refl
-then-load (Add a) = refl
-then-load (Mask a b) = refl
-
--- "anything then swap v is swap v"
-pub then-swap : (f : Operation) (v : ℕ) → merged f (Swap v) ≡ One (Swap v)
-unfolding merged applied
-then-swap Load v = refl
-then-swap (Swap w) v = refl
-then-swap (Add a) v = refl
-then-swap (Mask a b) v = refl
-
--- "swap v then g is swap of g(v)"
-pub swap-then : (v : ℕ) (g : Operation) → merged (Swap v) g ≡ One (Swap (applied g v))
-unfolding merged
-swap-then v g = refl
-
+-- ---- merged
 -- "add then mask, and mask then add, do not merge, even where an operand makes one of them harmless"
 pub add-mask-never : (a b c : ℕ) → merged (Add a) (Mask b c) ≡ Never
 unfolding merged

@@ -10,9 +10,13 @@ use Rattle.operation.specs.declared.Words.{Words}
 use Rattle.operation.specs.declared.Merged.{Merged}
 use Rattle.operation.specs.declared.Merged.the-variants.{One, Never}
 
+-- "modulo 2^64": what a word keeps of a number
+unfoldable pub cut : ℕ → ℕ
+cut n = n % 2 ^ 64
+
 -- "x + first, modulo 2^64": the add, in application to a word and in merging
 unfoldable pub sum : ℕ → ℕ → ℕ
-sum x y = (x + y) % 2 ^ 64
+sum x y = cut (x + y)
 
 -- "load: f(x) = x"; "swap: f(x) = first"; "add: f(x) = x + first, modulo 2^64"; "mask: f(x) = (x and first) xor second, bit by bit"
 unfoldable pub applied : Operation → ℕ → ℕ

@@ -48,7 +48,8 @@ pub marked-none : {address : ℕ → ℕ} {before : List ℕ} → length before 
 unfolding asksBelow
 marked-none size = record { size = size; marks = λ a l. refl }
 
-pub marked-more : {address : ℕ → ℕ} (n : ℕ) {before after : List ℕ} → address n < 256 → Marked address n before after → Marked address (n + 1) before (set after (address n) 1)
+pub marked-more : {address : ℕ → ℕ} (n : ℕ) {before after : List ℕ} → address n < 256 → Marked address n before after →
+    Marked address (n + 1) before (set after (address n) 1)
 unfolding asksBelow
 marked-more {address} n {before} {after} low m = record {
   size = length-set after (address n) 1 ∙ m .size;
@@ -59,8 +60,8 @@ marked-more {address} n {before} {after} low m = record {
 }
 
 -- ---- a trace
-pub trace-named : {trace : List ℕ} {r : Answer} {marks words m after : List ℕ} {n : ℕ} → Loaded trace r marks words m → n ≡ length (requestsOf (itemsIn trace)) →
-    Marked (view m .fixed .address) n marks after → after ≡ listBelow 256 (named (itemsIn trace))
+pub trace-named : {trace : List ℕ} {r : Answer} {marks words m after : List ℕ} {n : ℕ} → Loaded trace r marks words m →
+    n ≡ length (requestsOf (itemsIn trace)) → Marked (view m .fixed .address) n marks after → after ≡ listBelow 256 (named (itemsIn trace))
 unfolding named
 trace-named {trace} {m = m} {after = after} {n = n} l size d =
     below-is 0 256 (named (itemsIn trace)) after (d .size)

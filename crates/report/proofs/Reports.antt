@@ -8,9 +8,9 @@ use lib.ListN.{length}
 use borrow.Author.Tests.{le-leb, lt-leb}
 use Rattle.lists.specs.Table.{listBelow}
 use Rattle.lists.proofs.Below.{length-below}
+use Rattle.digits.specs.Buffer.{Printed}
+use Rattle.digits.proofs.Buffer.{printed-within, printed-text}
 use Rattle.text.specs.Text.{acceptedText, refusedText}
-use Rattle.text.specs.Written.{Reported as Printed, reportRoom}
-use Rattle.text.proofs.Written.{reported-within, reported-text}
 use Rattle.view.specs.View.{View}
 use Rattle.store.specs.Memory.{view}
 use Rattle.results.specs.Copied.{valueIn, valuesIn, marksIn}
@@ -31,7 +31,7 @@ use Rattle.run.specs.Run.{itemsIn, Loading, RanTo}
 use Rattle.run.proofs.Results.{resultsIn, results-are}
 use Rattle.report.specs.Names.{Marked}
 use Rattle.report.specs.Lines.{Printable, textIn}
-use Rattle.report.specs.Written.{Reported}
+use Rattle.report.specs.Written.{reportRoom, Reported}
 use Rattle.report.proofs.Names.{trace-named}
 
 -- ---- a refused trace
@@ -59,9 +59,11 @@ module _ {trace : List ℕ} {facts : Facts} {m words : List ℕ} (o : Loading tr
 -- ---- and once it is run
 text-in : (n : ℕ) (v : View) (words names : List ℕ) → v .fixed .count ≡ n → textOf (resultsIn n v words) names ≡ textIn v words names
 unfolding textOf
-text-in n v words names e =
-    ap (λ (k : ℕ). acceptedText k (valuesIn v n) (marksIn v n) (length (v .order)) (v .order) words names (v .accesses) (v .merges) (v .rounds)) (length-below n (valueIn v))
-    ∙ sym (ap (λ (k : ℕ). acceptedText k (valuesIn v k) (marksIn v k) (length (v .order)) (v .order) words names (v .accesses) (v .merges) (v .rounds)) e)
+text-in n v words names e = ap (text n) (length-below n (valueIn v)) ∙ sym (ap (λ (k : ℕ). text k k) e)
+  where
+    text : ℕ → ℕ → List ℕ
+    text places count =
+        acceptedText count (valuesIn v places) (marksIn v places) (length (v .order)) (v .order) words names (v .accesses) (v .merges) (v .rounds)
 
 module _ {items : Items} {m words : List ℕ} (r : RanTo items m words) where
   pub ran-printable : Printable (view m)
@@ -92,5 +94,5 @@ reported-fits trace before room w =
       fits-is = sym yes;
       len-is = w .size ∙ rw yes;
       text-is = w .bytes ∙ rw yes;
-      counts = (reported-within w, w .size ∙ ap length (sym (reported-text w)));
+      counts = (printed-within w, w .size ∙ ap length (sym (printed-text w)));
     }

@@ -5,7 +5,8 @@ use mathlib.Core.List.{List}
 use Rattle.report.specs.Written.{Reported}
 use Rattle.report.specs.declared.Written.{Written}
 
-pub only-one : (trace before : List ℕ) (r r′ : Written) (after after′ : List ℕ) → Reported trace before r after → Reported trace before r′ after′ → (r ≡ r′) × (after ≡ after′)
+pub only-one : (trace before : List ℕ) (r r′ : Written) (after after′ : List ℕ) → Reported trace before r after → Reported trace before r′ after′ →
+    (r ≡ r′) × (after ≡ after′)
 only-one trace before r r′ after after′ p p′ =
     let fits : r .fits ≡ r′ .fits = p .fits-is ∙ sym (p′ .fits-is) in
     let len : r .len ≡ r′ .len = p .len-is ∙ sym (p′ .len-is) in

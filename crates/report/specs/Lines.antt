@@ -1,5 +1,4 @@
--- The text of a run, from what the machine in code holds at its end. Nothing here has to be believed: no contract of the public function
--- names it.
+-- The text of a run, from what the machine in code holds at its end. No contract of the public function names it.
 use Prim.Native.Nat.{ℕ, _≤_}
 use mathlib.Core.List.{List}
 use lib.ListN.{length}
@@ -22,4 +21,5 @@ ordersIn v = orderLines (length (v .order)) (v .order)
 -- and the whole text
 abbrev pub textIn : View → List ℕ → List ℕ → List ℕ
 textIn v words named =
-    acceptedText (v .fixed .count) (valuesIn v (v .fixed .count)) (marksIn v (v .fixed .count)) (length (v .order)) (v .order) words named (v .accesses) (v .merges) (v .rounds)
+    let count = v .fixed .count in
+    acceptedText count (valuesIn v count) (marksIn v count) (length (v .order)) (v .order) words named (v .accesses) (v .merges) (v .rounds)

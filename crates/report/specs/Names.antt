@@ -1,5 +1,4 @@
--- Which addresses a trace names, in the marks of 256 addresses. Nothing here has to be believed: no contract of the public function
--- names it.
+-- Which addresses a trace names, in the marks of 256 addresses. No contract of the public function names it.
 use Prim.Native.Nat.{ℕ, zero, suc, _<_}
 use mathlib.Core.Path.{_≡_}
 use mathlib.Core.Bool.{Bool, true, false}

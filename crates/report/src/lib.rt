@@ -6,12 +6,13 @@ use trace::Answer;
 ghost use mathlib.Core.Path.{_≡_};
 ghost use Prim.Native.Nat.{_+_, _*_, _≤_};
 ghost use lib.ListN.{length};
-ghost use Rattle.text.specs.Written.{Wrote, Reported as Printed, lineRoom, reportRoom};
+ghost use Rattle.digits.specs.Buffer.{Wrote, Printed};
+ghost use Rattle.text.specs.Text.{lineRoom};
 ghost use Rattle.store.specs.Memory.{view};
 ghost use Rattle.report.specs.Report.{report as text};
 ghost use Rattle.report.specs.Names.{Marked};
 ghost use Rattle.report.specs.Lines.{Printable, repliesIn, ordersIn, textIn};
-ghost use Rattle.report.specs.Written.{Reported};
+ghost use Rattle.report.specs.Written.{reportRoom, Reported};
 
 // Room for every report, in bytes.
 pub const ROOM: usize = 49344;

@@ -1,5 +1,2 @@
-pub mod Written
-pub mod Decimal
 pub mod Lines
 pub mod Sections
-pub mod Session

@@ -1,53 +1,28 @@
 -- The lines of a report: document 01, "A session given whole".
-use Prim.Native.Nat.{ℕ, zero, suc, _+_, _/_, _%_}
-use Prim.Native.Char.{code}
-use Prim.Native.String.{String}
-use mathlib.Core.Bool.{true, false}
+use Prim.Native.Nat.{ℕ, zero, suc}
 use mathlib.Core.List.{List, [], _∷_, _++_}
 use lib.ListN.{getD}
-use lib.Dec.{eqb, ltb}
+use lib.Dec.{eqb}
 use Rattle.lists.specs.Choice.{choose}
-
--- the bytes of a text
-unfoldable pub bytesOf : String → List ℕ
-bytesOf String.[] = []
-bytesOf (String._∷_ c s) = code c ∷ bytesOf s
-
--- ---- numbers
-unfoldable pub digit : ℕ → ℕ
-digit n = 48 + n
-
--- "value in decimal", "numbers no leading zeros": a number n has at most n + 1 digits, which bounds the recursion
-unfoldable pub decimalIn : ℕ → ℕ → List ℕ
-decimalIn zero n = []
-decimalIn (suc most) n =
-    elim (ltb n 10) [
-      | true ↦ digit n ∷ []
-      | false ↦ decimalIn most (n / 10) ++ (digit (n % 10) ∷ [])
-    ]
-
-unfoldable pub decimal : ℕ → List ℕ
-decimal n = decimalIn (suc n) n
+use Rattle.digits.specs.Numeral.{bytesOf, decimal}
+use Rattle.digits.specs.Line.{line}
 
 -- ---- lines
--- "Fields have one space between them", "every line ends with one newline"
-abbrev pub line1 : String → List ℕ → List ℕ
-line1 name field = bytesOf name ++ bytesOf " " ++ field ++ bytesOf "\n"
-
-abbrev pub line2 : String → List ℕ → List ℕ → List ℕ
-line2 name field last = bytesOf name ++ bytesOf " " ++ field ++ bytesOf " " ++ last ++ bytesOf "\n"
+-- no line is longer
+abbrev pub lineRoom : ℕ
+lineRoom = 64
 
 -- "`reply` tag and value in decimal, `-` for unanswered": mark 0 is unanswered
 unfoldable pub replyLine : ℕ → ℕ → ℕ → List ℕ
-replyLine tag value mark = line2 "reply" (decimal tag) (choose (eqb mark 0) (bytesOf "-") (decimal value))
+replyLine tag value mark = line (bytesOf "reply" ∷ decimal tag ∷ choose (eqb mark 0) (bytesOf "-") (decimal value) ∷ [])
 
 -- "`order` a tag"
 unfoldable pub orderLine : ℕ → List ℕ
-orderLine tag = line1 "order" (decimal tag)
+orderLine tag = line (bytesOf "order" ∷ decimal tag ∷ [])
 
 -- "`word` address and value .. for each address that a word record or request names": mark 0 is an address that none names
 unfoldable pub wordLine : ℕ → ℕ → ℕ → List ℕ
-wordLine address value named = choose (eqb named 0) [] (line2 "word" (decimal address) (decimal value))
+wordLine address value named = choose (eqb named 0) [] (line (bytesOf "word" ∷ decimal address ∷ decimal value ∷ []))
 
 -- ---- the sections of a report, as far as n
 unfoldable pub replyLines : ℕ → List ℕ → List ℕ → List ℕ
@@ -65,7 +40,8 @@ wordLines (suc n) words named = wordLines n words named ++ wordLine n (getD word
 
 -- "then the counts"
 unfoldable pub countLines : ℕ → ℕ → ℕ → List ℕ
-countLines accesses merges rounds = line1 "access" (decimal accesses) ++ line1 "merge" (decimal merges) ++ line1 "rounds" (decimal rounds)
+countLines accesses merges rounds =
+    line (bytesOf "access" ∷ decimal accesses ∷ []) ++ line (bytesOf "merge" ∷ decimal merges ∷ []) ++ line (bytesOf "rounds" ∷ decimal rounds ∷ [])
 
 -- ---- a report
 -- R requests with their values and marks, n order places, 256 words and which of them are named, and the counts
@@ -75,4 +51,4 @@ acceptedText R values marks n order words named accesses merges rounds =
 
 -- "A refused trace prints one line, `refused`, number, offset"
 unfoldable pub refusedText : ℕ → ℕ → List ℕ
-refusedText number offset = line2 "refused" (decimal number) (decimal offset)
+refusedText number offset = line (bytesOf "refused" ∷ decimal number ∷ decimal offset ∷ [])

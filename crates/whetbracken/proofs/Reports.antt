@@ -7,10 +7,11 @@ use native.Mathlib.Omega.{arith}
 use lib.ListN.{length, length-append}
 use lib.Dec.{leb}
 use Rattle.lists.specs.Choice.{choose}
-use Rattle.text.specs.Text.{bytesOf, replyLines, orderLines, wordLines, countLines, acceptedText, refusedText}
-use Rattle.text.specs.Written.{reportRoom}
+use Rattle.digits.specs.Numeral.{bytesOf}
+use Rattle.text.specs.Text.{replyLines, orderLines, wordLines, countLines, acceptedText, refusedText}
 use Rattle.trace.specs.Check.{Verdict, refused, accepted, check}
 use Rattle.report.specs.Report.{textOf, reported, report}
+use Rattle.report.specs.Written.{reportRoom}
 use Rattle.whetbracken.specs.Interface.{Wrote}
 
 some-last : (a b c d : List ℕ) → 0 < length d → 0 < length (a ++ b ++ c ++ d)
@@ -20,10 +21,12 @@ counts-some : (accesses merges rounds : ℕ) → 0 < length (countLines accesses
 unfolding countLines bytesOf
 counts-some accesses merges rounds = omega arith
 
-accepted-some : (R : ℕ) (values marks : List ℕ) (n : ℕ) (order words named : List ℕ) (accesses merges rounds : ℕ) → 0 < length (acceptedText R values marks n order words named accesses merges rounds)
+accepted-some : (R : ℕ) (values marks : List ℕ) (n : ℕ) (order words named : List ℕ) (accesses merges rounds : ℕ) →
+    0 < length (acceptedText R values marks n order words named accesses merges rounds)
 unfolding acceptedText
 accepted-some R values marks n order words named accesses merges rounds =
-    some-last (replyLines R values marks) (orderLines n order) (wordLines 256 words named) (countLines accesses merges rounds) (counts-some accesses merges rounds)
+    let sections = some-last (replyLines R values marks) (orderLines n order) (wordLines 256 words named) (countLines accesses merges rounds) in
+    sections (counts-some accesses merges rounds)
 
 verdict-some : (v : Verdict) → 0 < length (reported v)
 unfolding reported textOf refusedText bytesOf

@@ -1,6 +1,6 @@
--- `operation::plus` meets its contract: the supplied wrapping add is the sum.
+-- `operation::plus` meets its contract: the supplied wrapping add is the sum, cut.
 use borrow.Author.Needs.{needs}
-use Rattle.operation.specs.Operation.{sum}
+use Rattle.operation.specs.Operation.{cut, sum}
 use Rattle.operation.proofs.plus.Statement.{statement}
 use Rattle.operation.proofs.plus.Tie as tie
 
@@ -8,7 +8,7 @@ wrapping-add-u64-requires : tie.Need-wrapping-add-u64-requires
 wrapping-add-u64-requires c κs = search needs
 
 returns : tie.Need-returns
-unfolding sum
+unfolding sum cut
 returns c = search needs
 
 pub plus-spec : {M : Type 1} → statement M

@@ -41,7 +41,9 @@ loop-less c = search needs
 
 loop-again : tie.Need-loop-again Inv-loop μ-loop
 loop-again c =
-    (omega arith, rw (c .address-of .ensures) (marked-more (c .before .before .loop .tag) (rw (c .address-of .ensures) at (low c)) (c .before .before .loop .inv .1)))
+    let turn = c .before .before .loop in
+    let small = rw (c .address-of .ensures) at (low c) in
+    (omega arith, rw (c .address-of .ensures) (marked-more (turn .tag) small (turn .inv .1)))
 
 returns : tie.Need-returns Inv-loop μ-loop
 returns c = let e : c .before .loop .tag ≡ c .before .before .args .n = omega arith in rw (← e) (c .before .loop .inv .1)

@@ -26,7 +26,8 @@ put-orders-requires c κs =
     let start = c .before .before .before .before .before .before .before in
     let copied = c .before .before .before .copy-order in
     let order : length (copied .last .1 .0) ≡ 256 = copied .kept .1 .0 in
-    let low : c .before .before .before .before .before .ordered .result ≤ 256 = omega (arith, c .before .before .before .before .before .ordered .ensures, start .pre .0 .order-few) in
+    let ordered = c .before .before .before .before .before .ordered in
+    let low : ordered .result ≤ 256 = omega (arith, ordered .ensures, start .pre .0 .order-few) in
     (omega (arith, low, order), omega (arith, low, start .pre .1))
 
 same-length : tie.Need-same-length

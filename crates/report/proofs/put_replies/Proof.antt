@@ -41,7 +41,8 @@ put-replies-requires c κs =
     let values : length (copied .last .1 .1 .0) ≡ 256 = copied .kept .1 .1 .0 in
     let marks : length (marked .last .1 .1 .0) ≡ 256 = marked .kept .1 .1 .0 in
     let low = few (c .before .before .before .before .before .before .before .before .before) in
-    ((omega (arith, low, values), omega (arith, low, marks)), omega (arith, low, c .before .before .before .before .before .before .before .before .before .before .before .pre .1))
+    let start = c .before .before .before .before .before .before .before .before .before .before .before in
+    ((omega (arith, low, values), omega (arith, low, marks)), omega (arith, low, start .pre .1))
 
 same-length : tie.Need-same-length
 same-length c = search needs
@@ -49,7 +50,8 @@ same-length c = search needs
 returns : tie.Need-returns
 returns c =
     let start = c .before .before .before .before .before .before .before .before .before .before .before .before .before .before in
-    wrote-replies (view (start .args .m .now)) (start .pre .0) (c .before .before .before .before .before .before .before .before .before .before .before .before .requests-in .ensures)
+    let count = c .before .before .before .before .before .before .before .before .before .before .before .before .requests-in .ensures in
+    wrote-replies (view (start .args .m .now)) (start .pre .0) count
     (c .before .before .before .before .before .before .before .before .before .before .copy-values .ensures)
     (c .before .before .before .before .before .before .before .copy-marks .ensures)
     (c .before .before .put-replies .ensures)

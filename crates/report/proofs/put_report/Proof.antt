@@ -34,7 +34,9 @@ name-requests-requires c κs =
     (omega (arith, requests-few o (record { below = λ i. bytes .given i .fits })), loaded .load .ensures .marks-sized)
 
 from-start-requires : tie.Need-from-start-requires
-from-start-requires c κs = load-loading (c .before .before .before .before .before .before .before .before .load .ensures) (c .before .before .before .before .before .before .told2 .given .1)
+from-start-requires c κs =
+    let told = c .before .before .before .before .before .before in
+    load-loading (told .before .before .load .ensures) (told .told2 .given .1)
 
 put-results-requires : tie.Need-put-results-requires
 put-results-requires c κs =
@@ -47,9 +49,9 @@ same-length c = search needs
 
 returns : tie.Need-returns
 returns c =
-    printed-refused (c .before .before .before .before .before .before .before .before .load .ensures) (c .before .before .before .before .before .before .told .given .1)
-    (c .before .before .before .number-of .ensures)
-    (c .before .before .put-refused .ensures)
+    let told = c .before .before .before .before .before .before in
+    let number = c .before .before .before .number-of .ensures in
+    printed-refused (told .before .before .load .ensures) (told .told .given .1) number (c .before .before .put-refused .ensures)
 
 same-length-2 : tie.Need-same-length-2
 same-length-2 c = search needs

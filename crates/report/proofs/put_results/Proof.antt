@@ -44,10 +44,13 @@ same-length c = search needs
 
 returns : tie.Need-returns
 returns c =
-    let start = c .before .before .before .before .before .before .before .before .before .before .before .before .before .before .before .before .before .before .before .before in
-    let replies = c .before .before .before .before .before .before .before .before .before .before .before .before .before .before .before .before .before .put-replies .ensures in
-    let orders = c .before .before .before .before .before .before .before .before .before .before .before .before .before .put-orders .ensures in
-    let words = c .before .before .before .before .before .before .before .before .before .put-words .ensures in
+    let put-words = c .before .before .before .before .before .before .before .before .before in
+    let put-orders = put-words .before .before .before .before in
+    let put-replies = put-orders .before .before .before .before in
+    let start = put-replies .before .before .before in
+    let replies = put-replies .put-replies .ensures in
+    let orders = put-orders .put-orders .ensures in
+    let words = put-words .put-words .ensures in
     let counts = c .before .before .put-counts .ensures in
     printed-sections (view (start .args .m .now)) (start .args .memory .now) (start .args .named .now) (replies .0) (orders .0) (words .0)
     (c .before .before .before .before .before .before .accesses .ensures)

@@ -1,12 +1,14 @@
 -- `text::put_counts` meets its contract: three lines.
 use Prim.Native.Nat.{_*_, _≤_}
+use mathlib.Core.List.{[], _∷_}
 use native.Mathlib.Omega.{arith}
 use lib.ListN.{length, length-append}
 use borrow.Author.Needs.{needs}
-use Rattle.text.specs.Text.{bytesOf, countLines}
-use Rattle.text.specs.Written.{line, lineRoom}
-use Rattle.text.proofs.Written.{wrote-then, wrote-within, room-then}
-use Rattle.text.proofs.Lines.{countLines-are, countLines-length}
+use Rattle.digits.specs.Numeral.{bytesOf, decimal}
+use Rattle.digits.specs.Line.{line}
+use Rattle.digits.proofs.Buffer.{wrote-then, wrote-within, room-then}
+use Rattle.text.specs.Text.{lineRoom, countLines}
+use Rattle.text.proofs.Lines.{countLines-length}
 use Rattle.text.proofs.put_counts.Statement.{statement}
 use Rattle.text.proofs.put_counts.Tie as tie
 
@@ -19,43 +21,40 @@ slice-aggregate-put-line : tie.Need-slice-aggregate-put-line
 slice-aggregate-put-line c = search needs
 
 put-line-requires : tie.Need-put-line-requires
-unfolding bytesOf
-put-line-requires c κs =
-    simp length-append (omega (arith, simp length-append at (rw countLines-are at (fits (c .before .before .before)))))
+unfolding countLines bytesOf
+put-line-requires c κs = simp length-append (omega (arith, simp length-append at (fits (c .before .before .before))))
 
 slice-aggregate-put-line-2 : tie.Need-slice-aggregate-put-line-2
 slice-aggregate-put-line-2 c = search needs
 
 put-line-requires-2 : tie.Need-put-line-requires-2
-unfolding bytesOf
+unfolding countLines bytesOf
 put-line-requires-2 c κs =
-    room-then (c .before .before .before .before .put-line .ensures) (line (bytesOf "merge ") _)
-    (simp length-append (omega (arith, simp length-append at (rw countLines-are at (fits (c .before .before .before .before .before .before .before .before))))))
+    let start = c .before .before .before .before .before .before .before .before in
+    room-then (c .before .before .before .before .put-line .ensures) (line (bytesOf "merge" ∷ decimal (start .args .merges) ∷ []))
+    (simp length-append (omega (arith, simp length-append at (fits start))))
 
 slice-aggregate-put-line-3 : tie.Need-slice-aggregate-put-line-3
 slice-aggregate-put-line-3 c = search needs
 
 put-line-requires-3 : tie.Need-put-line-requires-3
-unfolding bytesOf
+unfolding countLines bytesOf
 put-line-requires-3 c κs =
-    room-then
-    (wrote-then (c .before .before .before .before .before .before .before .before .before .put-line .ensures) (c .before .before .before .before .put-line2 .ensures))
-    (line (bytesOf "rounds ") _)
-    (omega (arith, rw countLines-are at (fits (c .before .before .before .before .before .before .before .before .before .before .before .before .before))))
+    let start = c .before .before .before .before .before .before .before .before .before .before .before .before .before in
+    let accesses = c .before .before .before .before .before .before .before .before .before .put-line .ensures in
+    let merges = c .before .before .before .before .put-line2 .ensures in
+    room-then (wrote-then accesses merges) (line (bytesOf "rounds" ∷ decimal (start .args .rounds) ∷ [])) (omega (arith, fits start))
 
 same-length : tie.Need-same-length
 same-length c = search needs
 
 returns : tie.Need-returns
-unfolding bytesOf
+unfolding countLines bytesOf
 returns c =
-    wrote-within (lineRoom * 3) (fits (c .before .before .before .before .before .before .before .before .before .before .before .before .before .before .before .before))
-    (rw countLines-are
-    (wrote-then
-    (wrote-then
-    (c .before .before .before .before .before .before .before .before .before .before .before .before .put-line .ensures)
-    (c .before .before .before .before .before .before .before .put-line2 .ensures))
-    (c .before .before .put-line3 .ensures)))
+    let start = c .before .before .before .before .before .before .before .before .before .before .before .before .before .before .before .before in
+    let accesses = c .before .before .before .before .before .before .before .before .before .before .before .before .put-line .ensures in
+    let merges = c .before .before .before .before .before .before .before .put-line2 .ensures in
+    wrote-within (lineRoom * 3) (fits start) (wrote-then (wrote-then accesses merges) (c .before .before .put-line3 .ensures))
 
 pub put-counts-spec : {M : Type 1} → statement M
 put-counts-spec =

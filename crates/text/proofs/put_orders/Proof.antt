@@ -3,8 +3,8 @@ use Prim.Native.Nat.{_+_, _*_, _-_, _≤_}
 use mathlib.Core.Path.{_≡_, refl}
 use native.Mathlib.Omega.{arith}
 use lib.ListN.{length}
-use Rattle.text.specs.Text.{orderLines}
-use Rattle.text.specs.Written.{Wrote, lineRoom}
+use Rattle.digits.specs.Buffer.{Wrote}
+use Rattle.text.specs.Text.{lineRoom, orderLines}
 use Rattle.text.proofs.Sections.{orders, section-starts, section-goes}
 use Rattle.text.proofs.put_orders.Statement.{statement}
 use Rattle.text.proofs.put_orders.Tie as tie
@@ -35,15 +35,20 @@ loop-less : tie.Need-loop-less Inv-loop μ-loop
 loop-less c = omega arith
 
 loop-again : tie.Need-loop-again Inv-loop μ-loop
-loop-again c =
-    (omega arith, omega arith, omega arith, section-goes (orders _) _ (c .before .before .before .before .before .before .loop .inv .3) (c .before .before .put-order .ensures .0))
+loop-again c = (
+  omega arith,
+  omega arith,
+  omega arith,
+  section-goes (orders _) _ (c .before .before .before .before .before .before .loop .inv .3) (c .before .before .put-order .ensures .0),
+)
 
 same-length : tie.Need-same-length Inv-loop μ-loop
 same-length c = omega arith
 
 returns : tie.Need-returns Inv-loop μ-loop
 returns c =
-    let e : c .before .loop .place ≡ c .before .before .before .before .args .count = omega arith in rw (← e) (c .before .loop .inv .3, c .before .loop .inv .2)
+    let e : c .before .loop .place ≡ c .before .before .before .before .args .count = omega arith in
+    rw (← e) (c .before .loop .inv .3, c .before .loop .inv .2)
 
 pub put-orders-spec : {M : Type 1} → statement M
 put-orders-spec =

@@ -1,30 +1,34 @@
 -- `text::put_refused` meets its contract.
+use Prim.Native.Nat.{_≤_}
 use native.Mathlib.Omega.{arith}
+use lib.ListN.{length}
 use borrow.Author.Needs.{needs}
-use Rattle.text.specs.Text.{bytesOf}
-use Rattle.text.proofs.Written.{wrote-reported}
-use Rattle.text.proofs.Lines.{refusedText-is, refusedText-length}
+use Rattle.digits.specs.Numeral.{bytesOf}
+use Rattle.digits.proofs.Buffer.{wrote-printed}
+use Rattle.text.specs.Text.{lineRoom, refusedText}
+use Rattle.text.proofs.Lines.{refusedText-length}
 use Rattle.text.proofs.put_refused.Statement.{statement}
 use Rattle.text.proofs.put_refused.Tie as tie
+
+-- the line fits
+fits : (c : tie.Start) → length (refusedText (c .args .number) (c .args .offset)) ≤ lineRoom
+fits c = refusedText-length (c .args .number) (c .args .offset) (c .fits .number .fits) (c .fits .offset .fits)
 
 slice-aggregate-put-pair : tie.Need-slice-aggregate-put-pair
 slice-aggregate-put-pair c = search needs
 
 put-pair-requires : tie.Need-put-pair-requires
-unfolding bytesOf
-put-pair-requires c κs =
-    let s = c .before .before .before in
-    omega (arith, rw refusedText-is at (refusedText-length (s .args .number) (s .args .offset) (s .fits .number .fits) (s .fits .offset .fits)))
+unfolding refusedText bytesOf
+put-pair-requires c κs = omega (arith, fits (c .before .before .before))
 
 same-length : tie.Need-same-length
 same-length c = search needs
 
 returns : tie.Need-returns
-unfolding bytesOf
+unfolding refusedText bytesOf
 returns c =
-    let s = c .before .before .before .before .before .before in
-    let w = rw (← (refusedText-is _ _)) at (c .before .before .put-pair .ensures) in
-    wrote-reported w (omega (arith, w .behind, refusedText-length (s .args .number) (s .args .offset) (s .fits .number .fits) (s .fits .offset .fits)))
+    let w = c .before .before .put-pair .ensures in
+    wrote-printed w (omega (arith, w .behind, fits (c .before .before .before .before .before .before)))
 
 pub put-refused-spec : {M : Type 1} → statement M
 put-refused-spec = tie.close (tie.spec slice-aggregate-put-pair put-pair-requires same-length returns)

@@ -1,12 +1,14 @@
--- `text::put_reply` meets its contract: `-` for unanswered, else the value.
+-- `text::put_reply` meets its contract: the name and the tag, then `-` for unanswered, else the value.
 use Prim.Native.Nat.{_≤_}
 use native.Mathlib.Omega.{arith}
 use lib.ListN.{length, length-append}
 use borrow.Author.Needs.{needs}
-use Rattle.text.specs.Text.{bytesOf, replyLine}
-use Rattle.text.specs.Written.{lineRoom}
-use Rattle.text.proofs.Written.{wrote-then, wrote-within, room-then}
-use Rattle.text.proofs.Lines.{replyLine-answered, replyLine-unanswered, replyLine-length}
+use borrow.Author.Tests.{eq-eqb, ne-eqb}
+use Rattle.digits.specs.Numeral.{bytesOf}
+use Rattle.digits.proofs.Numerals.{decimal-word}
+use Rattle.digits.proofs.Buffer.{wrote-then, wrote-within}
+use Rattle.text.specs.Text.{lineRoom, replyLine}
+use Rattle.text.proofs.Lines.{replyLine-length}
 use Rattle.text.proofs.put_reply.Statement.{statement}
 use Rattle.text.proofs.put_reply.Tie as tie
 
@@ -18,44 +20,54 @@ slice-aggregate-put-field : tie.Need-slice-aggregate-put-field
 slice-aggregate-put-field c = search needs
 
 put-field-requires : tie.Need-put-field-requires
-unfolding bytesOf
-put-field-requires c κs =
-    simp length-append (omega (arith, simp length-append at (rw (replyLine-unanswered _ _ _ (c .before .before .if1 .taken)) at (fits (c .before .before .before .before)))))
+put-field-requires c κs = search needs
 
-slice-aggregate-put-bytes : tie.Need-slice-aggregate-put-bytes
-slice-aggregate-put-bytes c = search needs
+put-number-requires : tie.Need-put-number-requires
+put-number-requires c κs =
+    let start = c .before .before .before .before .before .before .before in
+    simp length-append (omega (arith, c .before .before .before .put-field .ensures .behind, decimal-word _ (start .fits .tag .fits), start .pre))
 
-put-bytes-requires : tie.Need-put-bytes-requires
-unfolding bytesOf
-put-bytes-requires c κs =
-    room-then (c .before .before .before .before .put-field .ensures) (bytesOf " -\n")
-    (omega (arith, rw (replyLine-unanswered _ _ _ (c .before .before .before .before .before .before .before .if1 .taken)) at (fits (c .before .before .before .before .before .before .before .before .before))))
+slice-aggregate-put-field-2 : tie.Need-slice-aggregate-put-field-2
+slice-aggregate-put-field-2 c = search needs
 
-slice-aggregate-put-pair : tie.Need-slice-aggregate-put-pair
-slice-aggregate-put-pair c = search needs
+put-field-requires-2 : tie.Need-put-field-requires-2
+put-field-requires-2 c κs =
+    let start = c .before .before .before .before .before .before .before .before .before .before .before .before .before in
+    let named = c .before .before .before .before .before .before .before .before .before .put-field .ensures .behind in
+    let tagged = c .before .before .before .before .before .put-number .ensures .behind in
+    omega (arith, named, simp length-append at tagged, decimal-word _ (start .fits .tag .fits), start .pre)
 
-put-pair-requires : tie.Need-put-pair-requires
-unfolding bytesOf
-put-pair-requires c κs = omega (arith, rw (replyLine-answered _ _ _ (c .before .before .if1 .left)) at (fits (c .before .before .before .before)))
+put-number-requires-2 : tie.Need-put-number-requires-2
+put-number-requires-2 c κs =
+    let start = c .before .before .before .before .before .before .before .before .before .before .before .before in
+    let named = c .before .before .before .before .before .before .before .before .put-field .ensures .behind in
+    let tagged = c .before .before .before .before .put-number .ensures .behind in
+    simp length-append
+    (omega (arith, named, simp length-append at tagged, decimal-word _ (start .fits .tag .fits), decimal-word _ (start .fits .value .fits), start .pre))
 
 same-length : tie.Need-same-length
 same-length c = search needs
 
 returns : tie.Need-returns
-unfolding bytesOf
+unfolding replyLine bytesOf
 returns c =
-    wrote-within lineRoom (fits (c .before .before .before .before .before .before .before .before .before .before .before .before))
-    (rw (replyLine-unanswered _ _ _ (c .before .before .before .before .before .before .before .before .before .before .if1 .taken))
-    (wrote-then (c .before .before .before .before .before .before .before .put-field .ensures) (c .before .before .put-bytes .ensures)))
+    let start = c .before .before .before .before .before .before .before .before .before .before .before .before .before .before .before .before in
+    let named = c .before .before .before .before .before .before .before .before .before .before .before .before .put-field .ensures in
+    let tagged = c .before .before .before .before .before .before .before .before .put-number .ensures in
+    let line = wrote-then named (wrote-then tagged (c .before .before .put-field2 .ensures)) in
+    wrote-within lineRoom (fits start) (rw (eq-eqb _ 0 (c .before .before .before .before .before .if1 .taken)) line)
 
 same-length-2 : tie.Need-same-length-2
 same-length-2 c = search needs
 
 returns-2 : tie.Need-returns-2
-unfolding bytesOf
+unfolding replyLine bytesOf
 returns-2 c =
-    wrote-within lineRoom (fits (c .before .before .before .before .before .before .before))
-    (rw (replyLine-answered _ _ _ (c .before .before .before .before .before .if1 .left)) (c .before .before .put-pair .ensures))
+    let start = c .before .before .before .before .before .before .before .before .before .before .before .before .before .before .before in
+    let named = c .before .before .before .before .before .before .before .before .before .before .before .put-field .ensures in
+    let tagged = c .before .before .before .before .before .before .before .put-number .ensures in
+    let line = wrote-then named (wrote-then tagged (c .before .before .put-number2 .ensures)) in
+    wrote-within lineRoom (fits start) (rw (ne-eqb _ 0 (c .before .before .before .before .if1 .left)) line)
 
 pub put-reply-spec : {M : Type 1} → statement M
 put-reply-spec =
@@ -63,10 +75,10 @@ put-reply-spec =
     (tie.spec
     slice-aggregate-put-field
     put-field-requires
-    slice-aggregate-put-bytes
-    put-bytes-requires
-    slice-aggregate-put-pair
-    put-pair-requires
+    put-number-requires
+    slice-aggregate-put-field-2
+    put-field-requires-2
+    put-number-requires-2
     same-length
     returns
     same-length-2

@@ -3,10 +3,11 @@ use Prim.Native.Nat.{_≤_}
 use native.Mathlib.Omega.{arith}
 use lib.ListN.{length}
 use borrow.Author.Needs.{needs}
-use Rattle.text.specs.Text.{bytesOf, wordLine}
-use Rattle.text.specs.Written.{lineRoom}
-use Rattle.text.proofs.Written.{wrote-nothing, wrote-within}
-use Rattle.text.proofs.Lines.{wordLine-named, wordLine-unnamed, wordLine-length}
+use borrow.Author.Tests.{eq-eqb, ne-eqb}
+use Rattle.digits.specs.Numeral.{bytesOf}
+use Rattle.digits.proofs.Buffer.{wrote-nothing, wrote-within}
+use Rattle.text.specs.Text.{lineRoom, wordLine}
+use Rattle.text.proofs.Lines.{wordLine-length}
 use Rattle.text.proofs.put_word.Statement.{statement}
 use Rattle.text.proofs.put_word.Tie as tie
 
@@ -18,20 +19,22 @@ slice-aggregate-put-pair : tie.Need-slice-aggregate-put-pair
 slice-aggregate-put-pair c = search needs
 
 put-pair-requires : tie.Need-put-pair-requires
-unfolding bytesOf
-put-pair-requires c κs = omega (arith, rw (wordLine-named _ _ _ (c .before .before .if1 .left)) at (fits (c .before .before .before .before)))
+unfolding wordLine bytesOf
+put-pair-requires c κs = omega (arith, rw (ne-eqb _ 0 (c .before .before .if1 .left)) at (fits (c .before .before .before .before)))
 
 returns : tie.Need-returns
-returns c = wrote-within lineRoom (fits (c .before .before)) (rw (wordLine-unnamed _ _ _ (c .if1 .taken)) (wrote-nothing _ _))
+unfolding wordLine
+returns c = wrote-within lineRoom (fits (c .before .before)) (rw (eq-eqb _ 0 (c .if1 .taken)) (wrote-nothing _ _))
 
 same-length : tie.Need-same-length
 same-length c = search needs
 
 returns-2 : tie.Need-returns-2
-unfolding bytesOf
+unfolding wordLine bytesOf
 returns-2 c =
-    wrote-within lineRoom (fits (c .before .before .before .before .before .before .before))
-    (rw (wordLine-named _ _ _ (c .before .before .before .before .before .if1 .left)) (c .before .before .put-pair .ensures))
+    let start = c .before .before .before .before .before .before .before in
+    let some = c .before .before .before .before .before .if1 .left in
+    wrote-within lineRoom (fits start) (rw (ne-eqb _ 0 some) (c .before .before .put-pair .ensures))
 
 pub put-word-spec : {M : Type 1} → statement M
 put-word-spec = tie.close (tie.spec slice-aggregate-put-pair put-pair-requires returns same-length returns-2)

@@ -3,8 +3,8 @@ use Prim.Native.Nat.{_+_, _*_, _-_, _≤_}
 use mathlib.Core.Path.{_≡_, refl}
 use native.Mathlib.Omega.{arith}
 use lib.ListN.{length}
-use Rattle.text.specs.Text.{wordLines}
-use Rattle.text.specs.Written.{Wrote, lineRoom}
+use Rattle.digits.specs.Buffer.{Wrote}
+use Rattle.text.specs.Text.{lineRoom, wordLines}
 use Rattle.text.proofs.Sections.{addresses, section-starts, section-goes}
 use Rattle.text.proofs.put_words.Statement.{statement}
 use Rattle.text.proofs.put_words.Tie as tie
@@ -38,8 +38,12 @@ loop-less : tie.Need-loop-less Inv-loop μ-loop
 loop-less c = omega arith
 
 loop-again : tie.Need-loop-again Inv-loop μ-loop
-loop-again c =
-    (omega arith, omega arith, omega arith, section-goes (addresses _ _) _ (c .before .before .before .before .before .before .before .loop .inv .3) (c .before .before .put-word .ensures .0))
+loop-again c = (
+  omega arith,
+  omega arith,
+  omega arith,
+  section-goes (addresses _ _) _ (c .before .before .before .before .before .before .before .loop .inv .3) (c .before .before .put-word .ensures .0),
+)
 
 same-length : tie.Need-same-length Inv-loop μ-loop
 same-length c = omega arith

@@ -1,8 +1,8 @@
--- `text::digit` meets its contract.
+-- `digits::digit` meets its contract.
 use borrow.Author.Needs.{needs}
-use Rattle.text.specs.Text.{digit}
-use Rattle.text.proofs.digit.Statement.{statement}
-use Rattle.text.proofs.digit.Tie as tie
+use Rattle.digits.specs.Numeral.{digit}
+use Rattle.digits.proofs.digit.Statement.{statement}
+use Rattle.digits.proofs.digit.Tie as tie
 
 cast-result : tie.Need-cast-result
 cast-result c = search needs

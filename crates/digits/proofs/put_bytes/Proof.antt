@@ -1,14 +1,14 @@
--- `text::put_bytes` meets its contract: after i turns the first i bytes are written.
+-- `digits::put_bytes` meets its contract: after i turns the first i bytes are written.
 use Prim.Native.Nat.{_+_, _-_, _≤_, _<_}
 use mathlib.Core.Path.{_≡_, refl}
 use native.Mathlib.Numerals.{add-one}
 use native.Mathlib.Omega.{arith}
 use lib.ListN.{length, take}
 use lib.Seq.{take-suc, take-all}
-use Rattle.text.specs.Written.{Wrote}
-use Rattle.text.proofs.Written.{wrote-nothing, wrote-then}
-use Rattle.text.proofs.put_bytes.Statement.{statement}
-use Rattle.text.proofs.put_bytes.Tie as tie
+use Rattle.digits.specs.Buffer.{Wrote}
+use Rattle.digits.proofs.Buffer.{wrote-nothing, wrote-then}
+use Rattle.digits.proofs.put_bytes.Statement.{statement}
+use Rattle.digits.proofs.put_bytes.Tie as tie
 
 abbrev Inv-loop : tie.InvT-loop
 Inv-loop out₀ at bytes next₀ i₀ i-end out next i =

@@ -1,4 +1,4 @@
--- Laws of `Wrote`: writing one text behind another is writing both.
+-- Laws of `Wrote`: writing one text behind another is writing both; and of `Printed`.
 use Prim.Native.Nat.{ℕ, suc, _+_, _≤_}
 use mathlib.Core.Path.{_≡_, refl, sym, _∙_, ap}
 use mathlib.Core.List.{List, [], _∷_, _++_}
@@ -6,9 +6,9 @@ use native.Mathlib.Nat.{add-zero, add-suc, suc-add, zero-add}
 use native.Mathlib.Omega.{arith}
 use lib.ListN.{length, take, set, length-append}
 use lib.Seq.{sets, length-sets, sets-eq, take-append-seam}
-use Rattle.text.specs.Written.{Wrote, Reported}
+use Rattle.digits.specs.Buffer.{Wrote, Printed}
 
-pub sets-append : (before : List ℕ) (at : ℕ) (first second : List ℕ) → sets before at (first ++ second) ≡ sets (sets before at first) (at + length first) second
+sets-append : (before : List ℕ) (at : ℕ) (first second : List ℕ) → sets before at (first ++ second) ≡ sets (sets before at first) (at + length first) second
 sets-append before at [] second = ap (λ (k : ℕ). sets before k second) (sym (add-zero at))
 sets-append before at (x ∷ first) second =
     sets-append (set before at x) (suc at) first second
@@ -27,18 +27,19 @@ module _ {before : List ℕ} {at : ℕ} {first middle : List ℕ} {next : ℕ} (
   pub room-then : (second : List ℕ) → at + length (first ++ second) ≤ length before → next + length second ≤ length middle
   room-then second h = rw (w .bytes, length-sets) (omega (arith, simp length-append at h))
 
-pub wrote-within : {before : List ℕ} {at : ℕ} {text after : List ℕ} {next : ℕ} (room : ℕ) → length text ≤ room → Wrote before at text after next → Wrote before at text after next × (next ≤ at + room)
+pub wrote-within : {before : List ℕ} {at : ℕ} {text after : List ℕ} {next : ℕ} (room : ℕ) → length text ≤ room → Wrote before at text after next
+    → Wrote before at text after next × (next ≤ at + room)
 wrote-within room h w = (w, omega arith)
 
-pub wrote-reported : {text before after : List ℕ} {r : ℕ} → Wrote before 0 text after r → r ≤ length before → Reported text before after r
-wrote-reported {text} {before} w h = record {
+pub wrote-printed : {text before after : List ℕ} {r : ℕ} → Wrote before 0 text after r → r ≤ length before → Printed text before after r
+wrote-printed {text} {before} w h = record {
   bytes = w .bytes ∙ sets-eq text before 0 (omega arith) ∙ rw zero-add;
   size = w .behind ∙ zero-add (length text);
 }
 
 -- what a caller prints: as many bytes as the result says, which are there, are the text
-pub reported-within : {text before after : List ℕ} {r : ℕ} → Reported text before after r → r ≤ length after
-reported-within w = rw (w .bytes, length-append) (omega arith)
+pub printed-within : {text before after : List ℕ} {r : ℕ} → Printed text before after r → r ≤ length after
+printed-within w = rw (w .bytes, length-append) (omega arith)
 
-pub reported-text : {text before after : List ℕ} {r : ℕ} → Reported text before after r → take r after ≡ text
-reported-text {text} w = rw (w .bytes, w .size) (take-append-seam text _)
+pub printed-text : {text before after : List ℕ} {r : ℕ} → Printed text before after r → take r after ≡ text
+printed-text {text} w = rw (w .bytes, w .size) (take-append-seam text _)
