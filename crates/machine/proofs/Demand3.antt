@@ -28,16 +28,16 @@ use Rattle.machine.proofs.StepCounts.{stands-some, run-accesses, run-me
 module _ (S : Setup) (law : Lawful S) (words : ℕ → S .Word) where
   open Setup S using (k, R)
 
-  live-ordered : {n : ℕ} (st : State S) → Live S law words st n → Ordered S words st
-  live-ordered st L = ordered S law words (L .places) st (L .invariant)
+  live-ordered : {n : ℕ} (st : State S) → Live S words st n → Ordered S words st
+  live-ordered st L = ordered S words (L .places) st (L .invariant) law
 
-  live-place : {n : ℕ} (st : State S) → Live S law words st n → OnePlace S st
-  live-place st L = one-place S law words (L .places) st (L .invariant) (L .held)
+  live-place : {n : ℕ} (st : State S) → Live S words st n → OnePlace S st
+  live-place st L = one-place S words (L .places) st (L .invariant) (L .held)
 
   -- ---- the counts are few: each move takes one from what is left, and adds one merge at most
   record Spent (st : State S) : Type 0 where
     remains : ℕ
-    live : Live S law words st remains
+    live : Live S words st remains
     fewMerges : st .merges + remains ≤ R * (2 * k + 2)
     fewAccesses : st .accesses ≤ length (st .order)
 
@@ -84,13 +84,13 @@ module _ (S : Setup) (law : Lawful S) (words : ℕ → S .Word) where
     room = short;
     next = λ p m rest is.
         let z = move-live S law words (serving p m rest is) (P .remains) (P .live) in
-        omega (arith, order-length S law words (z .2 .places) _ (z .2 .invariant), length-append (st .order) (standsFor S (st .waits) k (m .tag)));
+        omega (arith, order-length S words (z .2 .places) _ (z .2 .invariant), length-append (st .order) (standsFor S (st .waits) k (m .tag)));
     accesses = omega (arith, P .fewAccesses, short);
     merges = omega (arith, P .fewMerges);
   }
     where
       short : length (st .order) ≤ R
-      short = order-length S law words (P .live .places) st (P .live .invariant)
+      short = order-length S words (P .live .places) st (P .live .invariant)
 
 -- ---- for the code above
 module _ (S : Setup) (law : Lawful S) (words : ℕ → S .Word) where

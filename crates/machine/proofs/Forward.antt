@@ -52,7 +52,7 @@ module _ (S : Setup) (words : ℕ → S .Word) (places : ℕ → ℕ) (st : Stat
 -- ---- it goes to the end of the next queue
 module _ (S : Setup) (law : Lawful S) (words : ℕ → S .Word) (places : ℕ → ℕ) (st : State S) (I : Invariant S words places st)
     (s p : ℕ) (m : Message S) (rest : List (Message S)) (is : st .requests s p ≡ m ∷ rest) (lt : s < S .k) where
-  open Setup S using (Word, apply, k, addressOf, position)
+  open Setup S using (k, position)
 
   abbrev p′ : ℕ
   p′ = place S (m .tag) (suc s)

@@ -32,7 +32,7 @@ module _ (S : Setup) (law : Lawful S) (words : ℕ → S .Word) (places : ℕ �
     (older : List (Message S)) (f : Message S) (younger : List (Message S)) (o : S .Operation) (parts : st .requests (suc s) (place S (m .tag) (suc s)) ≡ older ++ (f ∷ younger))
     (same : f .address ≡ m .address) (last : All (λ (y : Message S). y .address ≢ m .address) younger)
     (applies : (x : S .Word) → S .apply o x ≡ S .apply (m .operation) (S .apply (f .operation) x)) where
-  open Setup S using (Word, apply, k, addressOf, position)
+  open Setup S using (apply, k, addressOf, position)
 
   abbrev p′ : ℕ
   p′ = place S (m .tag) (suc s)
@@ -166,7 +166,7 @@ module _ (S : Setup) (law : Lawful S) (words : ℕ → S .Word) (places : ℕ �
         (λ j q n. update2-ind _ _ _ _ (λ j q l. Distinct (messageTag S) l) (distinct-tail (messageTag S) m rest (rw is at (I .requestedOnce s p))) (λ j q n′. I .requestedOnce j q) j q);
     waiting = update2-ind _ _ _ _ (λ j q l. All (λ (r : WaitRecord S). (update places (m .tag) c (r .second) ≡ 4 * j + 1) × Waiting S (update places (m .tag) c) j q r) l)
         (all-append (waiting-relabel S places (m .tag) c (suc s) _ (λ h. omega (arith, h, front .0)) (I .waiting (suc s) _) (oldest-waits S words places st I s p m rest is (suc s) _))
-        (cons (update-same places (m .tag) c, ((into .1 .0, refl, one-word), above-update S places (m .tag) c (suc s) (f .tag) (λ h. omega (arith, h, front .0)) (omega (arith, into .0)))) nil))
+        (cons (update-same places (m .tag) c, ((into .1 .0, refl, one-word), above-update places (m .tag) c (suc s) (f .tag) (λ h. omega (arith, h, front .0)) (omega (arith, into .0)))) nil))
         (λ j q n. waiting-relabel S places (m .tag) c j q (λ h. omega (arith, h, front .0)) (I .waiting j q) (oldest-waits S words places st I s p m rest is j q));
     waitingOnce = update2-ind _ _ _ _ (λ j q l. Distinct (waiterTag S) l)
         (distinct-append (waiterTag S) _ (record { first = f .tag; second = m .tag; operation = f .operation }) (I .waitingOnce (suc s) _) (oldest-waits S words places st I s p m rest is (suc s) _))

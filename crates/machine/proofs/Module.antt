@@ -28,7 +28,7 @@ use Rattle.machine.proofs.Forward.{oldest, oldest-rest, oldest-requests
 
 module _ (S : Setup) (law : Lawful S) (words : ℕ → S .Word) (places : ℕ → ℕ) (st : State S) (I : Invariant S words places st)
     (p : ℕ) (m : Message S) (rest : List (Message S)) (is : st .requests (S .k) p ≡ m ∷ rest) where
-  open Setup S using (Word, apply, k, addressOf, position)
+  open Setup S using (apply, k, addressOf, position)
 
   -- the place of m from now on
   abbrev c : ℕ

@@ -21,7 +21,7 @@ use Rattle.machine.proofs.Drain.{Fits, does-live, drain-live}
 use Rattle.machine.proofs.Time.{Later, later-same, later-onward, does-later, later-in-time}
 
 module _ (S : Setup) where
-  open Setup S using (k, N, R)
+  open Setup S using (k, N)
 
   -- ---- the events of a run
   pub events-append : (xs ys : List Event) (st : State S) → runEvents S (xs ++ ys) st ≡ runEvents S ys (runEvents S xs st)
@@ -67,8 +67,8 @@ module _ (S : Setup) where
 
     module _ (words : ℕ → S .Word) where
       -- the rounds of all drains come off what is left
-      pub acts-live : (acts : List Act) → All (Named k) acts → (b : ℕ) (r : Ran S) → Live S law words (r .state) b
-          → (b′ : ℕ) × (runActs S acts r .rounds + b′ ≤ r .rounds + b) × Live S law words (runActs S acts r .state) b′
+      pub acts-live : (acts : List Act) → All (Named k) acts → (b : ℕ) (r : Ran S) → Live S words (r .state) b
+          → (b′ : ℕ) × (runActs S acts r .rounds + b′ ≤ r .rounds + b) × Live S words (runActs S acts r .state) b′
       unfolding runActs runAct
       acts-live [] f b r L = (b, omega arith, L)
       acts-live (event e ∷ as′) (cons f fs) b r L = acts-live as′ fs b (record { state = step S e (r .state); rounds = r .rounds }) (does-live S law words b (step-does S (r .state) law e f) L)
@@ -78,22 +78,22 @@ module _ (S : Setup) where
           (y .0, omega (arith, z .1, y .1), y .2)
 
       -- ---- every moment, and every two of them
-      pub after-live : (es : List Event) → All (Fits S) es → (st : State S) (n : ℕ) → Live S law words st n → All (λ x. Live S law words x n) (afterEach S es st)
+      pub after-live : (es : List Event) → All (Fits S) es → (st : State S) (n : ℕ) → Live S words st n → All (λ x. Live S words x n) (afterEach S es st)
       unfolding afterEach
       after-live [] f st n L = nil
       after-live (e ∷ es) (cons f fs) st n L = let M = does-live S law words n (step-does S st law e f) L in cons M (after-live es fs (step S e st) n M)
 
-      after-later : (es : List Event) → All (Fits S) es → (a st : State S) (n : ℕ) → Live S law words st n → Later S a st → All (Later S a) (afterEach S es st)
+      after-later : (es : List Event) → All (Fits S) es → (a st : State S) (n : ℕ) → Live S words st n → Later S a st → All (Later S a) (afterEach S es st)
       unfolding afterEach
       after-later [] f a st n L g = nil
       after-later (e ∷ es) (cons f fs) a st n L g =
           let d = step-does S st law e f in
-          let h = later-onward S g (does-later S law words n L d) in
+          let h = later-onward S g (does-later S words n L d) in
           cons h (after-later es fs a (step S e st) n (does-live S law words n d L) h)
 
-      pub after-in-time : (es : List Event) → All (Fits S) es → (st : State S) (n : ℕ) → Live S law words st n → InTurn (InTime S) (st ∷ afterEach S es st)
+      pub after-in-time : (es : List Event) → All (Fits S) es → (st : State S) (n : ℕ) → Live S words st n → InTurn (InTime S) (st ∷ afterEach S es st)
       unfolding afterEach
       after-in-time [] f st n L = next nil ended
       after-in-time (e ∷ es) (cons f fs) st n L = next
-          (all-map (λ x h. later-in-time S law words st x n L h) (after-later (e ∷ es) (cons f fs) st st n L (later-same S st st refl refl)))
+          (all-map (λ x h. later-in-time S words law st x n L h) (after-later (e ∷ es) (cons f fs) st st n L (later-same S st st refl refl)))
           (after-in-time es fs (step S e st) n (does-live S law words n (step-does S st law e f) L))

@@ -25,8 +25,8 @@ unfolding drainRun
 drain-rests S zero r h = refl
 drain-rests S (suc n) r h = rw (h, drainRun)
 
-module _ (S : Setup) (law : Lawful S) (words : ℕ → S .Word) where
-  open Setup S using (Word, k, R)
+module _ (S : Setup) where
+  open Setup S using (Word, R)
 
   -- ---- no move is left
   value-of : (o : Option Word) → isAnswered S o ≡ true → (v : Word) × (o ≡ some v)
@@ -38,7 +38,7 @@ module _ (S : Setup) (law : Lawful S) (words : ℕ → S .Word) where
   none-left-below places zero h = refl
   none-left-below places (suc n) h = rw (h n (omega arith), remaining-end S) (omega (arith, none-left-below places n (λ t l. h t (omega arith))))
 
-  answered-live : (st : State S) (n : ℕ) → allAnswered S st ≡ true → Live S law words st n → Live S law words st 0
+  answered-live : {words : ℕ → Word} (st : State S) (n : ℕ) → allAnswered S st ≡ true → Live S words st n → Live S words st 0
   answered-live st n h L = record {
     places = L .places;
     invariant = L .invariant;
@@ -46,17 +46,20 @@ module _ (S : Setup) (law : Lawful S) (words : ℕ → S .Word) where
     bound = omega (arith, none-left-below (L .places) R (λ t l. let z = value-of (st .answers t) (below-answered S st R h t l) in L .invariant .collected t (z .0) (z .1) .0));
   }
 
+module _ (S : Setup) (law : Lawful S) (words : ℕ → S .Word) where
+  open Setup S using (k, R)
+
   -- ---- so no step moves anything
-  does-rest : {why : Type 0} {a b : State S} → Live S law words a 0 → Does S why a b → b ≡ a
+  does-rest : {why : Type 0} {a b : State S} → Live S words a 0 → Does S why a b → b ≡ a
   does-rest L (idle w) = refl
   does-rest L (moved m) = absurd (omega (arith, move-live S law words m 0 L .1))
 
-  act-rests : (a : Act) → Named k a → (r : Ran S) → allAnswered S (r .state) ≡ true → Live S law words (r .state) 0 → runAct S a r ≡ r
+  act-rests : (a : Act) → Named k a → (r : Ran S) → allAnswered S (r .state) ≡ true → Live S words (r .state) 0 → runAct S a r ≡ r
   unfolding runAct
   act-rests (event e) f r h L = ap (λ (st : State S). record { state = st; rounds = r .rounds }) (does-rest L (step-does S (r .state) law e f))
   act-rests (drain n) f r h L = drain-rests S n r h
 
-  all-rest : (acts : List Act) → All (Named k) acts → (r : Ran S) → allAnswered S (r .state) ≡ true → Live S law words (r .state) 0 → runActs S acts r ≡ r
+  all-rest : (acts : List Act) → All (Named k) acts → (r : Ran S) → allAnswered S (r .state) ≡ true → Live S words (r .state) 0 → runActs S acts r ≡ r
   unfolding runActs
   all-rest [] f r h L = refl
   all-rest (a ∷ acts) (cons f fs) r h L = ap (runActs S acts) (act-rests a f r h L) ∙ all-rest acts fs r h L
@@ -66,4 +69,4 @@ module _ (S : Setup) (law : Lawful S) (words : ℕ → S .Word) where
       → runActs S more (runActs S acts (atStart S words)) ≡ runActs S acts (atStart S words)
   answered-rests acts named more named′ h =
       let live = acts-live S law words acts named (R * (2 * k + 2)) (atStart S words) (start-live S law words) .2 in
-      all-rest more named′ (runActs S acts (atStart S words)) h (answered-live (runActs S acts (atStart S words) .state) _ h live)
+      all-rest more named′ (runActs S acts (atStart S words)) h (answered-live S (runActs S acts (atStart S words) .state) _ h live)

@@ -40,17 +40,17 @@ module _ (S : Setup) where
     stays = λ t v h. g .stays t v (f .stays t v h);
   }
 
-  module _ (law : Lawful S) (words : ℕ → Word) where
-    collect-later : (a : State S) (n : ℕ) → Live S law words a n → (e : ℕ) (t : Reply S) (rest : List (Reply S)) → a .replies 0 e ≡ t ∷ rest → Later a (collectOldest S a e (t ∷ rest))
+  module _ (words : ℕ → Word) where
+    collect-later : (a : State S) (n : ℕ) → Live S words a n → (e : ℕ) (t : Reply S) (rest : List (Reply S)) → a .replies 0 e ≡ t ∷ rest → Later a (collectOldest S a e (t ∷ rest))
     unfolding collectOldest
     collect-later a n L e t rest is = record {
       grows = ([], append-nil (a .order));
       stays = λ u v h. by-cases (ℕ-discrete u (t .tag))
-          (λ (z : u ≡ t .tag). let y = reply-unanswered S law words (L .places) a (L .invariant) e t rest is in let x : none ≡ some v = sym y ∙ ap (a .answers) (sym z) ∙ h in let w : _≡_ {A = ℕ} 0 1 = cc in absurd (omega arith))
+          (λ (z : u ≡ t .tag). let y = reply-unanswered S words (L .places) a (L .invariant) e t rest is in let x : none ≡ some v = sym y ∙ ap (a .answers) (sym z) ∙ h in let w : _≡_ {A = ℕ} 0 1 = cc in absurd (omega arith))
           (λ (z : u ≢ t .tag). update-other (a .answers) (t .tag) (some (t .value)) z ∙ h);
     }
 
-    pub move-later : {a b : State S} (n : ℕ) → Live S law words a n → Move S a b → Later a b
+    pub move-later : {a b : State S} (n : ℕ) → Live S words a n → Move S a b → Later a b
     move-later {a} {b} n L (appending s p m rest lt is) = later-same a b refl refl
     move-later {a} {b} n L (merging s p m rest older f younger o lt is parts same last applies) = later-same a b refl refl
     move-later {a} n L (serving p m rest is) = record { grows = (standsFor S (a .waits) k (m .tag), refl); stays = λ t v h. h }
@@ -58,17 +58,17 @@ module _ (S : Setup) where
     move-later {a} {b} n L (lowering s p t rest is free) = later-same a b refl refl
     move-later {a} n L (collecting e t rest is) = collect-later a n L e t rest is
 
-    pub does-later : {why : Type 0} {a b : State S} (n : ℕ) → Live S law words a n → Does S why a b → Later a b
+    pub does-later : {why : Type 0} {a b : State S} (n : ℕ) → Live S words a n → Does S why a b → Later a b
     does-later {a = a} n L (idle w) = later-same a a refl refl
     does-later n L (moved m) = move-later n L m
 
     -- ---- real time
-    pub later-in-time : (a b : State S) (n : ℕ) → Live S law words a n → Later a b → InTime S a b
-    later-in-time a b n L f = record { grows = f .grows; stays = f .stays; realTime = real }
+    pub later-in-time : Lawful S → (a b : State S) (n : ℕ) → Live S words a n → Later a b → InTime S a b
+    later-in-time law a b n L f = record { grows = f .grows; stays = f .stays; realTime = real }
       where
         real : (t u : ℕ) (v : Word) → a .answers t ≡ some v → 0 < count (messageTag S) u (a .requests 0 (engineOf u)) → List·Memᴰ u (b .order) → Before t u (b .order)
         real t u v h un mem =
             let grown = f .grows .0 in
             let w : 1 ≤ count itself u (b .order) = member-count mem in
-            let in-new : 1 ≤ count itself u grown = omega (arith, w, unissued-absent S law words (L .places) a (L .invariant) u un, ap (count itself u) (f .grows .1), count-append itself u (a .order) grown) in
-            subst (Before t u) (f .grows .1) (before-append t u (a .order) grown (member-count (collected-member S law words (L .places) a (L .invariant) t v h)) in-new)
+            let in-new : 1 ≤ count itself u grown = omega (arith, w, unissued-absent S words (L .places) a (L .invariant) law u un, ap (count itself u) (f .grows .1), count-append itself u (a .order) grown) in
+            subst (Before t u) (f .grows .1) (before-append t u (a .order) grown (member-count (collected-member S words (L .places) a (L .invariant) t v h)) in-new)

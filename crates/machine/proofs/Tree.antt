@@ -14,7 +14,7 @@ use Rattle.machine.specs.State.{standsFor, seconds}
 use Rattle.machine.proofs.Records.{records-append, records-all, records-none, records-own, records-other}
 
 module _ (S : Setup) where
-  open Setup S using (Word, Operation, apply, engineOf, addressOf, operationOf, position)
+  open Setup S using (Operation)
 
   -- the wait buffers, by level and position
   abbrev pub Waits : Type 0
@@ -86,13 +86,15 @@ module _ (S : Setup) where
       (records-append S u (waits s p) (r ∷ []) ∙ rw (records-other S u r [] n, records-none S u nil) (append-nil (recordsOf S u (waits s p)))) (λ _ _ _. refl) j q) free
 
   -- ---- a record that goes: z, of the first tag z .first
+  pub records-middle : (xs : List (WaitRecord S)) (z : WaitRecord S) (ys : List (WaitRecord S))
+      → recordsOf S (z .first) (xs ++ (z ∷ ys)) ≡ recordsOf S (z .first) xs ++ (z ∷ recordsOf S (z .first) ys)
+  records-middle xs z ys = rw (records-append S (z .first) xs (z ∷ ys), records-own S z ys)
+
+  -- whatever stands there then, a tree below does not change
+  pub gone-below : (waits : Waits) (s p : ℕ) (l : List (WaitRecord S)) (j u : ℕ) → j ≤ s → treeOf (update2 waits (suc s) p l) j u ≡ treeOf waits j u
+  gone-below waits s p l j u h = below waits (update2 waits (suc s) p l) s (λ i q k. update2-level waits (suc s) p _ i q (omega arith)) j u h
+
   module _ (waits : Waits) (s p : ℕ) (xs : List (WaitRecord S)) (z : WaitRecord S) (ys : List (WaitRecord S)) (is : waits (suc s) p ≡ xs ++ (z ∷ ys)) where
-    pub records-middle : recordsOf S (z .first) (xs ++ (z ∷ ys)) ≡ recordsOf S (z .first) xs ++ (z ∷ recordsOf S (z .first) ys)
-    records-middle = rw (records-append S (z .first) xs (z ∷ ys), records-own S z ys)
-
-    pub gone-below : (j u : ℕ) → j ≤ s → treeOf (update2 waits (suc s) p (xs ++ ys)) j u ≡ treeOf waits j u
-    gone-below j u h = below waits (update2 waits (suc s) p (xs ++ ys)) s (λ i q k. update2-level waits (suc s) p _ i q (omega arith)) j u h
-
     pub gone-other : ((j q : ℕ) → All (λ (r : WaitRecord S). r .second ≢ z .first) (waits j q)) → (j u : ℕ) → u ≢ z .first → treeOf (update2 waits (suc s) p (xs ++ ys)) j u ≡ treeOf waits j u
     gone-other free = agree (z .first) waits (update2 waits (suc s) p (xs ++ ys)) (λ j q u n. update2-ind waits (suc s) p (xs ++ ys) (λ j q l. recordsOf S u l ≡ recordsOf S u (waits j q))
         (rw (is, records-append S, records-append S u xs (z ∷ ys), records-other S u z ys n)) (λ _ _ _. refl) j q) free

@@ -7,8 +7,13 @@ use Rattle.lists.specs.Choice.{choose}
 use Rattle.machine.specs.Setup.{Setup, Message, WaitRecord, Reply, place}
 use Rattle.machine.specs.Arrival.{recordsOf}
 
+-- the tags below n, ascending
+unfoldable pub tagsBelow : ℕ → List ℕ
+tagsBelow zero = []
+tagsBelow (suc n) = tagsBelow n ++ (n ∷ [])
+
 module _ (S : Setup) where
-  open Setup S using (Word, k, R, engineOf, addressOf, operationOf)
+  open Setup S using (Word, R, engineOf, addressOf, operationOf)
 
   -- Queues and buffers are by level and position, oldest first. The requests at level 0, position e, are those that
   -- engine e has not issued, in trace order: an issue is then a forward from level 0.
@@ -21,11 +26,6 @@ module _ (S : Setup) where
     pub answers : ℕ → Option Word
     pub accesses : ℕ
     pub merges : ℕ
-
-  -- the tags below n, ascending
-  unfoldable pub tagsBelow : ℕ → List ℕ
-  tagsBelow zero = []
-  tagsBelow (suc n) = tagsBelow n ++ (n ∷ [])
 
   -- the request t as it is issued
   abbrev pub asked : ℕ → Message S

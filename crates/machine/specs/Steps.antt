@@ -13,7 +13,7 @@ use Rattle.machine.specs.Arrival.{Node, Arrival, merged, appended, refus
 use Rattle.machine.specs.State.{State, standsFor}
 
 module _ (S : Setup) where
-  open Setup S using (Word, apply, k, Q)
+  open Setup S using (apply, k, Q)
 
   -- ---- issue (from level 0) and forward
   -- the oldest message of level s, position p, has left it, and the node at level s + 1, position p′, is n

@@ -24,7 +24,7 @@ module _ (x : Network) where
   tags-longer zero t = let z : t ≡ t + 0 = omega arith in ap (λ (u : ℕ). u ∷ []) z
   tags-longer (suc n) t = let z : suc t + n ≡ t + suc n = omega arith in ap (λ (l : List ℕ). t ∷ l) (tags-longer n (suc t) ∙ ap (λ (u : ℕ). tagsFrom n (suc t) ++ (u ∷ [])) z)
 
-  tags-all : (n : ℕ) → tagsFrom n 0 ≡ tagsBelow (setup x) n
+  tags-all : (n : ℕ) → tagsFrom n 0 ≡ tagsBelow n
   unfolding tagsBelow tagsFrom
   tags-all zero = refl
   tags-all (suc n) = let z : 0 + n ≡ n = omega arith in tags-longer n 0 ∙ ap₂ (λ (l : List ℕ) (u : ℕ). l ++ (u ∷ [])) (tags-all n) z
