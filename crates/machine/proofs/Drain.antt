@@ -9,25 +9,25 @@ use native.Mathlib.Omega.{arith}
 use lib.ListN.{length}
 use Rattle.lists.specs.Search.{All, nil, cons}
 use Rattle.lists.proofs.Tests.{by-cases, test-cases}
-use Rattle.event.specs.Event.{Event, levelFits}
+use Rattle.event.specs.Event.{Event, Act, event, drain}
 use Rattle.machine.specs.Setup.{Setup, place}
 use Rattle.machine.specs.State.{State}
 use Rattle.machine.specs.Steps.{step}
-use Rattle.machine.specs.Run.{round, runEvents, isAnswered, answeredBelow, allAnswered, Ran, drainRun}
+use Rattle.machine.specs.Run.{round, runEvents, isAnswered, answeredBelow, allAnswered, Ran, drainRun, runAct, runActs}
+use Rattle.machine.specs.Order.{Named}
 use Rattle.machine.specs.Lawful.{Lawful}
 use Rattle.machine.proofs.Lists.{clash, element, empty}
 use Rattle.machine.proofs.Tags.{waiterTag}
 use Rattle.machine.proofs.Invariant.{Invariant, Above}
 use Rattle.machine.proofs.Places.{Spot, atEnd, atRequest, atWait, atReply, wait-level, remaining-none, left, Held}
+use Rattle.machine.proofs.Moves.{Move}
 use Rattle.machine.proofs.Progress.{Live, live-more, move-live}
-use Rattle.machine.proofs.StepsMove.{Does, idle, moved, Stuck, nothing, full, Why, step-does, both-first, both-second}
+use Rattle.machine.proofs.StepsMove.{Does, idle, moved, Stuck, nothing, full, Why, step-does, step-keeps, both-first, both-second}
 use Rattle.machine.proofs.Rounds.{round-fits, round-collects, round-returns, round-modules, round-forwards, round-issues}
+use Rattle.machine.proofs.Moments.{Fits, Kept, after-events}
 
 module _ (S : Setup) where
   open Setup S using (k, N, R)
-
-  abbrev pub Fits : Event → Type 0
-  Fits e = levelFits k (e .what) (e .level) ≡ true
 
   -- ---- every request is answered
   answered-below : (st : State S) (n : ℕ) → ((t : ℕ) → t < n → isAnswered S (st .answers t) ≡ true) → answeredBelow S n st ≡ true
@@ -50,7 +50,7 @@ module _ (S : Setup) where
       (λ (e : t ≡ n). rw e (remaining-none S (places n) (omega arith) (H .spot n)))
       (λ (m : ¬ (t ≡ n)). none-remains H n (omega arith) t (omega arith))
 
-  pub none-left : {words : ℕ → S .Word} (st : State S) → Live S words st 0 → allAnswered S st ≡ true
+  none-left : {words : ℕ → S .Word} (st : State S) → Live S words st 0 → allAnswered S st ≡ true
   none-left st L = answered-below st R (λ t l. L .held .inAnswers t (none-remains (L .held) R (L .bound) t l) l)
 
   -- ---- a drain stops, or runs one round and goes on
@@ -117,16 +117,16 @@ module _ (S : Setup) where
       idle-answered = answered-below st R (λ t l. H .inAnswers t (at-end t (H .spot t)) l)
 
     -- ---- a list of events lowers what is left, or each of them is idle
-    pub does-live : {why : Type 0} {a b : State S} (n : ℕ) → Does S why a b → Live S words a n → Live S words b n
-    does-live n (idle w) L = L
-    does-live n (moved m) L = let z = move-live S law words m n L in live-more S words n (omega (arith, z .1)) (z .2)
+    pub move-keeps-live : (n : ℕ) (a b : State S) → Move S a b → Live S words a n → Live S words b n
+    move-keeps-live n a b m L = let z = move-live S law words m n L in live-more S words n (omega (arith, z .1)) (z .2)
 
-    pub events-live : (es : List Event) → All Fits es → (st : State S) (n : ℕ) → Live S words st n → Live S words (runEvents S es st) n
-    unfolding runEvents
-    events-live [] f st n L = L
-    events-live (e ∷ es) (cons f fs) st n L = events-live es fs (step S e st) n (does-live n (step-does S st law e f) L)
+    pub step-keeps-live : (n : ℕ) → Kept S (Fits S) (λ st. Live S words st n)
+    step-keeps-live n = step-keeps S law (λ st. Live S words st n) (move-keeps-live n)
 
-    events-fall : (es : List Event) → All Fits es → (st : State S) (n : ℕ) → Live S words st (suc n) → Live S words (runEvents S es st) n ⊎ All (λ e. Why S e st) es
+    pub events-live : {es : List Event} → All (Fits S) es → (st : State S) (n : ℕ) → Live S words st n → Live S words (runEvents S es st) n
+    events-live fs st n = after-events S (λ x. Live S words x n) (step-keeps-live n) fs st
+
+    events-fall : (es : List Event) → All (Fits S) es → (st : State S) (n : ℕ) → Live S words st (suc n) → Live S words (runEvents S es st) n ⊎ All (λ e. Why S e st) es
     unfolding runEvents
     events-fall [] f st n L = inr nil
     events-fall (e ∷ es) (cons f fs) st n L = joined (go (step S e st) (step-does S st law e f) (events-fall es fs st n L))
@@ -134,13 +134,13 @@ module _ (S : Setup) where
         go : (st′ : State S) → Does S (Why S e st) st st′ → Live S words (runEvents S es st) n ⊎ All (λ e. Why S e st) es → Live S words (runEvents S es st′) n ⊎ (Why S e st × All (λ e. Why S e st) es)
         go st′ (idle w) (inl x) = inl x
         go st′ (idle w) (inr x) = inr (w, x)
-        go st′ (moved m) x = let z = move-live S law words m (suc n) L in inl (events-live es fs st′ n (live-more S words n (omega (arith, z .1)) (z .2)))
+        go st′ (moved m) x = let z = move-live S law words m (suc n) L in inl (events-live fs st′ n (live-more S words n (omega (arith, z .1)) (z .2)))
 
         joined : Live S words (runEvents S es (step S e st)) n ⊎ (Why S e st × All (λ e. Why S e st) es) → Live S words (runEvents S es (step S e st)) n ⊎ All (λ e. Why S e st) (e ∷ es)
         joined (inl x) = inl x
         joined (inr x) = inr (cons (x .0) (x .1))
 
-    pub round-live : (st : State S) (n : ℕ) → allAnswered S st ≡ false → Live S words st (suc n) → Live S words (runEvents S (round k N) st) n
+    round-live : (st : State S) (n : ℕ) → allAnswered S st ≡ false → Live S words st (suc n) → Live S words (runEvents S (round k N) st) n
     round-live st n unanswered L = go (events-fall (round k N) (round-fits k N (law .levels)) st n L)
       where
         go : Live S words (runEvents S (round k N) st) n ⊎ All (λ e. Why S e st) (round k N) → Live S words (runEvents S (round k N) st) n
@@ -164,3 +164,14 @@ module _ (S : Setup) where
     drain-answers zero (suc b) r L l = absurd (omega arith)
     drain-answers (suc n) zero r L l = drain-cases (λ x. allAnswered S (x .state) ≡ true) n r (λ e. e) (λ e. clash (none-left (r .state) L) e)
     drain-answers (suc n) (suc b) r L l = drain-cases (λ x. allAnswered S (x .state) ≡ true) n r (λ e. e) (λ e. drain-answers n b (afterRound r) (round-live (r .state) b e L) (omega arith))
+
+    -- the rounds of all drains come off what is left
+    pub acts-live : (acts : List Act) → All (Named k) acts → (b : ℕ) (r : Ran S) → Live S words (r .state) b
+        → (b′ : ℕ) × (runActs S acts r .rounds + b′ ≤ r .rounds + b) × Live S words (runActs S acts r .state) b′
+    unfolding runActs runAct
+    acts-live [] f b r L = (b, omega arith, L)
+    acts-live (event e ∷ as′) (cons f fs) b r L = acts-live as′ fs b (record { state = step S e (r .state); rounds = r .rounds }) (step-keeps-live b e f (r .state) L)
+    acts-live (drain n ∷ as′) (cons f fs) b r L =
+        let z = drain-live n b r L in
+        let y = acts-live as′ fs (z .0) (drainRun S n r) (z .2) in
+        (y .0, omega (arith, z .1, y .1), y .2)

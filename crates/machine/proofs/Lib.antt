@@ -17,11 +17,11 @@ pub mod Start
 pub mod Arrivals
 pub mod StepsMove
 pub mod Rounds
+pub mod Moments
 pub mod Drain
 pub mod Ordered
 pub mod OnePlace
 pub mod Time
-pub mod Moments
 pub mod StepCounts
 pub mod Rooms
 pub mod Rest

@@ -82,6 +82,11 @@ module _ {A : Type 0} (key : A → ℕ) (label : ℕ → ℕ) (t c : ℕ) {R : A
   pub away : {xs : List A} → label t ≢ c → All (λ x. (label (key x) ≡ c) × R x) xs → All (λ x. key x ≢ t) xs
   away n h = all-map (λ x k e. n (sym (ap label e) ∙ k .0)) h
 
+-- what holds of everything holds of every element
+pub all-every : {A : Type 0} {P : A → Type 0} → ((x : A) → P x) → (xs : List A) → All P xs
+all-every f [] = nil
+all-every f (x ∷ xs) = cons (f x) (all-every f xs)
+
 -- ---- what a count says
 -- an element with the key, where the count says so
 pub element : {A : Type 0} {P : A → Type 0} (key : A → ℕ) (u : ℕ) {xs : List A} → All P xs → 1 ≤ count key u xs → (x : A) × P x × (key x ≡ u)
@@ -109,7 +114,7 @@ pub stack-count : {A : Type 0} (key : A → ℕ) (u : ℕ) (f : ℕ → List A) 
 stack-count key u f zero = omega arith
 stack-count key u f (suc n) = rw count-append (omega (arith, stack-count key u f n))
 
-pub count-split : (x : ℕ) (ys : List ℕ) → 1 ≤ count itself x ys → (older : List ℕ) × (younger : List ℕ) × (ys ≡ older ++ (x ∷ younger))
+count-split : (x : ℕ) (ys : List ℕ) → 1 ≤ count itself x ys → (older : List ℕ) × (younger : List ℕ) × (ys ≡ older ++ (x ∷ younger))
 count-split x [] h = absurd (omega arith)
 count-split x (y ∷ ys) h = by-cases (ℕ-discrete y x)
     (λ (e : y ≡ x). ([], ys, ap (λ (z : ℕ). z ∷ ys) e))

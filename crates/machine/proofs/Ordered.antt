@@ -54,7 +54,7 @@ module _ (S : Setup) where
     pub order-inside : (u : ℕ) → 1 ≤ count itself u (st .order) → u < R
     order-inside u h = tags-inside R u (omega (arith, line-count u))
 
-    pub order-once : (u : ℕ) → count itself u (st .order) ≤ 1
+    order-once : (u : ℕ) → count itself u (st .order) ≤ 1
     order-once u = omega (arith, line-count u, tags-once R u)
 
     pub order-length : length (st .order) ≤ R

@@ -17,8 +17,7 @@ use Rattle.machine.proofs.Places.{remaining-end, left}
 use Rattle.machine.proofs.Progress.{Live, move-live}
 use Rattle.machine.proofs.Start.{start-live}
 use Rattle.machine.proofs.StepsMove.{Does, idle, moved, step-does}
-use Rattle.machine.proofs.Drain.{below-answered}
-use Rattle.machine.proofs.Moments.{acts-live}
+use Rattle.machine.proofs.Drain.{below-answered, acts-live}
 
 pub drain-rests : (S : Setup) (n : ℕ) (r : Ran S) → allAnswered S (r .state) ≡ true → drainRun S n r ≡ r
 unfolding drainRun

@@ -69,7 +69,7 @@ module _ (S : Setup) where
       landed-does m rest is (appended n) h = subst (λ (x : Node S). Does Reason st (sent S st s p rest (place S (m .tag) (suc s)) x (st .merges))) (sym h) (moved (appending s p m rest lt is))
       landed-does m rest is refused h = idle (full (place S (m .tag) (suc s)) h)
 
-      pub forward-does : Does Reason st (forwardStep S s p st)
+      forward-does : Does Reason st (forwardStep S s p st)
       unfolding forwardStep forwardOldest
       forward-does = go (st .requests s p) refl
         where
@@ -78,7 +78,7 @@ module _ (S : Setup) where
           go (m ∷ rest) is = landed-does m rest is (arrive S (nodeAt S st (suc s) (place S (m .tag) (suc s))) m) (arrive-is S law (nodeAt S st (suc s) (place S (m .tag) (suc s))) m)
 
     -- ---- module
-    pub module-does : (p : ℕ) → Does (Stuck (st .requests k p) (λ _. st .replies k p)) st (moduleStep S p st)
+    module-does : (p : ℕ) → Does (Stuck (st .requests k p) (λ _. st .replies k p)) st (moduleStep S p st)
     unfolding moduleStep serveOldest
     module-does p = go (st .requests k p) refl
       where
@@ -97,7 +97,7 @@ module _ (S : Setup) where
       answered-does t rest is (found older r younger) h =
           ltb-either (Does Cause st) (length (st .replies s (place S (r .second) s))) Q (λ _. moved (answering s p t rest older r younger is (h .0) (h .1))) (λ l. idle (full (place S (r .second) s) l))
 
-      pub return-does : Does Cause st (returnStep S s p st)
+      return-does : Does Cause st (returnStep S s p st)
       unfolding returnStep returnOldest
       return-does = go (st .replies (suc s) p) refl
         where
@@ -106,7 +106,7 @@ module _ (S : Setup) where
           go (t ∷ rest) is = answered-does t rest is (oldestOf S (t .tag) (st .waits (suc s) p)) (oldest-is S (t .tag) (st .waits (suc s) p))
 
     -- ---- collect
-    pub collect-does : (e : ℕ) → Does (st .replies 0 e ≡ []) st (collectStep S e st)
+    collect-does : (e : ℕ) → Does (st .replies 0 e ≡ []) st (collectStep S e st)
     unfolding collectStep collectOldest
     collect-does e = go (st .replies 0 e) refl
       where
@@ -128,3 +128,12 @@ module _ (S : Setup) where
         (choose-does (eqb (e .what) 3) (λ _. return-does (e .level - 1) (e .position))
         (choose-does (eqb (e .what) 4) (λ _. collect-does (e .position))
         (λ _. idle tt)))))
+
+  -- what every move keeps every step keeps
+  pub step-keeps : Lawful S → (P : State S → Type 0) → ((a b : State S) → Move S a b → P a → P b)
+      → (e : Event) → levelFits k (e .what) (e .level) ≡ true → (st : State S) → P st → P (step S e st)
+  step-keeps law P f e fits st h = go (step S e st) (step-does st law e fits)
+    where
+      go : (st′ : State S) → Does (Why e st) st st′ → P st′
+      go st′ (idle w) = h
+      go st′ (moved m) = f st st′ m h
