@@ -56,12 +56,12 @@ module _ (S : Setup) where
     rw (g .1 x) (faithful-served b (g .2) (runOn (inOrder S a) x) l (λ r h. f r (rw readsOn-append (Memᴰ·append-right (readsOn x (inOrder S a)) h)))),
   )
 
-  pub served-parts : (l : List (Reply S)) (g : ℕ → Tree S) (t : Tree S) (rs : List (WaitRecord S)) (v : Word) → Served l (grown S g t rs) v
+  served-parts : (l : List (Reply S)) (g : ℕ → Tree S) (t : Tree S) (rs : List (WaitRecord S)) (v : Word) → Served l (grown S g t rs) v
       → Served l t v × All (λ (r : WaitRecord S). Served l (g (r .second)) (apply (r .operation) v)) rs
   served-parts l g t [] v h = (h, nil)
   served-parts l g t (r ∷ rs) v h = let z = served-parts l g (join t (r .operation) (g (r .second))) rs v h in (z .0 .0, cons (z .0 .1) (z .1))
 
-  pub parts-served : (l : List (Reply S)) (g : ℕ → Tree S) (t : Tree S) {rs : List (WaitRecord S)} (v : Word) → Served l t v
+  parts-served : (l : List (Reply S)) (g : ℕ → Tree S) (t : Tree S) {rs : List (WaitRecord S)} (v : Word) → Served l t v
       → All (λ (r : WaitRecord S). Served l (g (r .second)) (apply (r .operation) v)) rs → Served l (grown S g t rs) v
   parts-served l g t v h nil = h
   parts-served l g t v h (cons {x = r} {xs = rs} k ks) = parts-served l g (join t (r .operation) (g (r .second))) v (h, k) ks

@@ -25,12 +25,12 @@ use Rattle.machine.proofs.Places.{atEnd, atRequest, remaining, remainin
 use Rattle.machine.proofs.Progress.{Live}
 
 -- ---- the tags of a trace
-pub tags-above : (n u : ℕ) → n ≤ u → count itself u (tagsBelow n) ≡ 0
+tags-above : (n u : ℕ) → n ≤ u → count itself u (tagsBelow n) ≡ 0
 unfolding tagsBelow
 tags-above zero u l = refl
 tags-above (suc n) u l = let m : n ≢ u = (λ e. omega arith) in rw count-append (omega (arith, tags-above n u (omega arith), same-no m))
 
-pub tags-below : (n u : ℕ) → u < n → count itself u (tagsBelow n) ≡ 1
+tags-below : (n u : ℕ) → u < n → count itself u (tagsBelow n) ≡ 1
 unfolding tagsBelow
 tags-below zero u l = absurd (omega arith)
 tags-below (suc n) u l = by-cases (ℕ-discrete n u)

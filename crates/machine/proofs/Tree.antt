@@ -55,7 +55,7 @@ module _ (S : Setup) where
   grown-eq g h l (cons {x = r} {xs = rs} e es) = rw e (grown-eq g h (join l (r .operation) (h (r .second))) es)
 
   -- AGREE: records with the first tag x change no other tree, where x is nobody's second tag
-  pub agree : (x : ℕ) (waits waits′ : Waits) → ((s p u : ℕ) → u ≢ x → recordsOf S u (waits′ s p) ≡ recordsOf S u (waits s p))
+  agree : (x : ℕ) (waits waits′ : Waits) → ((s p u : ℕ) → u ≢ x → recordsOf S u (waits′ s p) ≡ recordsOf S u (waits s p))
       → ((s p : ℕ) → All (λ (r : WaitRecord S). r .second ≢ x) (waits s p)) → (s u : ℕ) → u ≢ x → treeOf waits′ s u ≡ treeOf waits s u
   unfolding treeOf
   agree x waits waits′ same free zero u n = refl
@@ -63,7 +63,7 @@ module _ (S : Setup) where
       (grown-eq (treeOf waits′ s) (treeOf waits s) (treeOf waits s u) (all-map (λ r h. agree x waits waits′ same free s (r .second) (h .0)) (records-all S u (free (suc s) (place S u (suc s))))))
 
   -- a tree up to level s looks at the buffers up to level s only
-  pub below : (waits waits′ : Waits) (j : ℕ) → ((s p : ℕ) → s ≤ j → waits′ s p ≡ waits s p) → (s u : ℕ) → s ≤ j → treeOf waits′ s u ≡ treeOf waits s u
+  below : (waits waits′ : Waits) (j : ℕ) → ((s p : ℕ) → s ≤ j → waits′ s p ≡ waits s p) → (s u : ℕ) → s ≤ j → treeOf waits′ s u ≡ treeOf waits s u
   unfolding treeOf
   below waits waits′ j same zero u h = refl
   below waits waits′ j same (suc s) u h = rw (same (suc s) (place S u (suc s)) h, fun-ext (λ v. below waits waits′ j same s v (omega arith)))
