@@ -25,5 +25,6 @@ pub mod Time
 pub mod StepCounts
 pub mod Rooms
 pub mod Rest
+pub mod Sound
 pub mod Demand3
 pub mod Omega

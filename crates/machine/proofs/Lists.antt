@@ -82,6 +82,11 @@ module _ {A : Type 0} (key : A → ℕ) (label : ℕ → ℕ) (t c : ℕ) {R : A
   pub away : {xs : List A} → label t ≢ c → All (λ x. (label (key x) ≡ c) × R x) xs → All (λ x. key x ≢ t) xs
   away n h = all-map (λ x k e. n (sym (ap label e) ∙ k .0)) h
 
+-- an element with those before it and those behind it
+pub member-split : {A : Type 0} {x : A} {xs : List A} → List·Memᴰ x xs → (before : List A) × (after : List A) × (xs ≡ before ++ (x ∷ after))
+member-split (List·Memᴰ·head {xs = after} e) = ([], after, ap (λ y. y ∷ after) (sym e))
+member-split (List·Memᴰ·tail {x = y} h) = let z = member-split h in (y ∷ z .0, z .1, ap (λ l. y ∷ l) (z .2))
+
 -- what holds of everything holds of every element
 pub all-every : {A : Type 0} {P : A → Type 0} → ((x : A) → P x) → (xs : List A) → All P xs
 all-every f [] = nil

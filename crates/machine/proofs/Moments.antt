@@ -34,6 +34,11 @@ module _ (S : Setup) where
       (allAnswered S (r .state)) (λ _. refl)
       (λ _. drain-events n (record { state = runEvents S (round k N) (r .state); rounds = suc (r .rounds) }) ∙ sym (events-append (round k N) (drainEvents S n (runEvents S (round k N) (r .state))) (r .state)))
 
+  pub acts-append : (xs ys : List Act) (r : Ran S) → runActs S (xs ++ ys) r ≡ runActs S ys (runActs S xs r)
+  unfolding runActs
+  acts-append [] ys r = refl
+  acts-append (a ∷ xs) ys r = acts-append xs ys (runAct S a r)
+
   -- the state after a run is the state after its events
   pub acts-events : (acts : List Act) (r : Ran S) → runActs S acts r .state ≡ runEvents S (eventsOf S acts (r .state)) (r .state)
   unfolding runActs runAct eventsOf runEvents

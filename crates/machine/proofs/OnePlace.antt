@@ -14,6 +14,7 @@ use Rattle.machine.proofs.Lists.{element, member-count}
 use Rattle.machine.proofs.Tags.{messageTag, waiterTag, replyTag}
 use Rattle.machine.proofs.Invariant.{Invariant}
 use Rattle.machine.proofs.Places.{Spot, atEnd, atRequest, atWait, atReply, Held}
+use Rattle.machine.proofs.Progress.{Live}
 use Rattle.machine.proofs.Ordered.{order-inside, collected-member}
 
 -- a number that is not above 0
@@ -85,9 +86,13 @@ module _ (S : Setup) where
     there t l (atWait s i h) = rw (h, where-waiting (suc s) t) (omega (arith, H .inWaits t (suc s) h, I .waitingOnce (suc s) (place S t (suc s)) t), (omega arith, i, refl))
     there t l (atReply s i h) = rw (h, where-replying s t) (omega (arith, H .inReplies t s h, I .replyingOnce s (place S t s) t), (i, refl))
 
-    pub one-place : OnePlace S st
+    one-place : OnePlace S st
     unfolding There
     one-place = record {
       somewhere = λ t l. let z = there t l (H .spot t) in (whereOf (places t) t, z .0, z .1, λ w n. absent (times S st t w) (λ h. n (stands t w h)));
       nowhere = λ t l w. absent (times S st t w) (λ h. omega (arith, inside t w h));
     }
+
+-- of a state with moves left
+pub live-place : (S : Setup) (words : ℕ → S .Word) {n : ℕ} (st : State S) → Live S words st n → OnePlace S st
+live-place S words st L = one-place S words (L .places) st (L .invariant) (L .held)

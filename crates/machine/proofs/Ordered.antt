@@ -26,6 +26,7 @@ use Rattle.machine.proofs.Served.{served-root}
 use Rattle.machine.proofs.Singly.{reads-member}
 use Rattle.machine.proofs.Invariant.{Invariant, kept, segment}
 use Rattle.machine.proofs.Return.{oldest-reply}
+use Rattle.machine.proofs.Progress.{Live}
 use Rattle.machine.proofs.Start.{tags-once, tags-inside, tags-length}
 use Rattle.machine.proofs.Drain.{below-answered}
 
@@ -85,7 +86,7 @@ module _ (S : Setup) where
       pub unissued-absent : (u : ℕ) → Unissued S st u → count itself u (st .order) ≡ 0
       unissued-absent u h = omega (arith, line-count u, tags-once R u, segment-unissued u, stack-count itself u (segment S st (engineOf u) (addressOf u)) k)
 
-      pub ordered : Ordered S words st
+      ordered : Ordered S words st
       unfolding kept
       ordered = record {
         distinct = order-once;
@@ -97,3 +98,7 @@ module _ (S : Setup) where
         once = reply-unanswered;
         complete = λ h t l. answered-member t (st .answers t) refl (below-answered S st R h t l);
       }
+
+-- of a state with moves left
+pub live-ordered : (S : Setup) (words : ℕ → S .Word) → Lawful S → {n : ℕ} (st : State S) → Live S words st n → Ordered S words st
+live-ordered S words law st L = ordered S words (L .places) st (L .invariant) law

@@ -3,7 +3,7 @@ use Prim.Native.Nat.{ℕ, suc, _+_, _*_, _≤_, _<_}
 use mathlib.Core.Path.{_≡_}
 use mathlib.Core.Logic.{_≢_}
 use mathlib.Core.Bool.{Bool, true, false}
-use mathlib.Core.List.{List, [], _∷_, List·Memᴰ}
+use mathlib.Core.List.{List, [], _∷_, _++_, List·Memᴰ}
 use mathlib.Core.Option.{none, some}
 use lib.ListN.{length}
 use lib.Dec.{eqb, ltb}
@@ -133,6 +133,11 @@ module _ (S : Setup) where
     pub rounds : runActs S acts (atStart words) .rounds ≤ R * (2 * k + 2)
     -- "a drain allowed R(2k + 2) rounds leaves none unanswered, whichever events came before"
     pub drained : (n : ℕ) → R * (2 * k + 2) ≤ n → allAnswered S (drainRun S n (runActs S acts (atStart words)) .state) ≡ true
+    -- so does one among the acts, whatever comes behind it: at every moment from its end on
+    pub drainedFrom : (n : ℕ) → R * (2 * k + 2) ≤ n → (before after : List Act) → acts ≡ before ++ (drain n ∷ after)
+        → All (λ st. allAnswered S st ≡ true) (moments S after (drainRun S n (runActs S before (atStart words)) .state))
+    -- and so after the whole run
+    pub drainedWithin : (n : ℕ) → R * (2 * k + 2) ≤ n → List·Memᴰ (drain n) acts → allAnswered S (runActs S acts (atStart words) .state) ≡ true
     -- "module accesses (module steps that took a message), merges"
     pub accesses : runActs S acts (atStart words) .state .accesses ≡ stepsThat takes (eventsOf S acts (start S words)) (start S words)
     pub mergings : runActs S acts (atStart words) .state .merges ≡ stepsThat merges (eventsOf S acts (start S words)) (start S words)

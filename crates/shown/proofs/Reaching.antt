@@ -13,7 +13,7 @@ use Rattle.machine.specs.Lawful.{Lawful}
 use Rattle.machine.specs.Sound.{Sound}
 use Rattle.machine.proofs.Omega.{omega-lawful}
 use Rattle.machine.proofs.Moments.{events-append}
-use Rattle.machine.proofs.Demand3.{sound}
+use Rattle.machine.proofs.Sound.{sound}
 use Rattle.view.specs.View.{Fixed, View}
 use Rattle.shown.specs.Network.{Network, setup, Ranges, Fits}
 use Rattle.shown.specs.Shown.{shown}
