@@ -1,138 +1,43 @@
--- Demand 3, and what a program that keeps the state in memory may rely on.
-use Prim.Native.Nat.{ℕ, suc, _+_, _*_, _≤_}
-use mathlib.Core.Path.{_≡_, sym, _∙_, ap}
-use mathlib.Core.Bool.{true}
-use mathlib.Core.List.{List, [], _∷_}
+-- Demand 3, of every run.
+use Prim.Native.Nat.{ℕ, _+_, _*_}
+use mathlib.Core.Path.{sym, _∙_, ap}
+use mathlib.Core.List.{List}
 use native.Mathlib.Omega.{arith}
-use lib.ListN.{length, length-append}
-use Rattle.lists.specs.Search.{All, cons}
+use Rattle.lists.specs.Search.{All}
 use Rattle.lists.proofs.Every.{all-map}
-use Rattle.event.specs.Event.{Event, Act, levelFits}
+use Rattle.event.specs.Event.{Act}
 use Rattle.machine.specs.Setup.{Setup}
-use Rattle.machine.specs.State.{State, start, standsFor}
-use Rattle.machine.specs.Steps.{step, collectOldest}
-use Rattle.machine.specs.Run.{runEvents, drainRun, runActs, eventsOf, moments}
-use Rattle.machine.specs.Order.{Named, OnePlace, Ordered, atStart, Demand3}
-use Rattle.machine.specs.Sound.{Sound}
+use Rattle.machine.specs.State.{State, start}
+use Rattle.machine.specs.Run.{eventsOf, moments}
+use Rattle.machine.specs.Order.{Named, atStart, Demand3}
 use Rattle.machine.specs.Lawful.{Lawful}
-use Rattle.machine.proofs.Moves.{Move, appending, merging, serving, answering, lowering, collecting}
-use Rattle.machine.proofs.Progress.{Live, move-live}
+use Rattle.machine.proofs.Progress.{Live}
 use Rattle.machine.proofs.Start.{start-live}
-use Rattle.machine.proofs.StepsMove.{Does, idle, moved, step-does}
-use Rattle.machine.proofs.Drain.{Fits, events-live, drain-live, drain-answers}
-use Rattle.machine.proofs.Ordered.{ordered, order-length}
-use Rattle.machine.proofs.OnePlace.{one-place}
-use Rattle.machine.proofs.Moments.{acts-events, acts-fit, acts-live, after-final, after-live, after-in-time}
-use Rattle.machine.proofs.StepCounts.{stands-some, run-accesses, run-merges}
-
-module _ (S : Setup) (law : Lawful S) (words : ℕ → S .Word) where
-  open Setup S using (k, R)
-
-  live-ordered : {n : ℕ} (st : State S) → Live S law words st n → Ordered S words st
-  live-ordered st L = ordered S law words (L .places) st (L .invariant)
-
-  live-place : {n : ℕ} (st : State S) → Live S law words st n → OnePlace S st
-  live-place st L = one-place S law words (L .places) st (L .invariant) (L .held)
-
-  -- ---- the counts are few: each move takes one from what is left, and adds one merge at most
-  record Spent (st : State S) : Type 0 where
-    remains : ℕ
-    live : Live S law words st remains
-    fewMerges : st .merges + remains ≤ R * (2 * k + 2)
-    fewAccesses : st .accesses ≤ length (st .order)
-
-  move-merges : {a b : State S} → Move S a b → b .merges ≤ suc (a .merges)
-  unfolding collectOldest
-  move-merges (appending s p m rest lt is) = omega arith
-  move-merges (merging s p m rest older f younger o lt is parts same last applies) = omega arith
-  move-merges (serving p m rest is) = omega arith
-  move-merges (answering s p t rest older r younger is parts of) = omega arith
-  move-merges (lowering s p t rest is free) = omega arith
-  move-merges (collecting e t rest is) = omega arith
-
-  move-accesses : {a b : State S} → Move S a b → a .accesses ≤ length (a .order) → b .accesses ≤ length (b .order)
-  unfolding collectOldest
-  move-accesses (appending s p m rest lt is) h = h
-  move-accesses (merging s p m rest older f younger o lt is parts same last applies) h = h
-  move-accesses {a} (serving p m rest is) h = omega (arith, length-append (a .order) (standsFor S (a .waits) k (m .tag)), stands-some S (a .waits) k (m .tag))
-  move-accesses (answering s p t rest older r younger is parts of) h = h
-  move-accesses (lowering s p t rest is free) h = h
-  move-accesses (collecting e t rest is) h = h
-
-  does-spent : {why : Type 0} {a b : State S} → Does S why a b → Spent a → Spent b
-  does-spent (idle w) P = P
-  does-spent (moved m) P = let z = move-live S law words m (P .remains) (P .live) in record {
-    remains = z .0;
-    live = z .2;
-    fewMerges = omega (arith, z .1, move-merges m, P .fewMerges);
-    fewAccesses = move-accesses m (P .fewAccesses);
-  }
-
-  events-spent : (es : List Event) → All (Fits S) es → (st : State S) → Spent st → Spent (runEvents S es st)
-  unfolding runEvents
-  events-spent [] f st P = P
-  events-spent (e ∷ es) (cons f fs) st P = events-spent es fs (step S e st) (does-spent (step-does S st law e f) P)
-
-  start-spent : Spent (start S words)
-  unfolding start
-  start-spent = record { remains = R * (2 * k + 2); live = start-live S law words; fewMerges = omega arith; fewAccesses = omega arith }
-
-  spent-sound : (st : State S) → Spent st → Sound S st
-  spent-sound st P = record {
-    onePlace = live-place st (P .live);
-    addresses = λ s p. all-map (λ m h. h .1 .3) (P .live .invariant .requested s p);
-    room = short;
-    next = λ p m rest is.
-        let z = move-live S law words (serving p m rest is) (P .remains) (P .live) in
-        omega (arith, order-length S law words (z .2 .places) _ (z .2 .invariant), length-append (st .order) (standsFor S (st .waits) k (m .tag)));
-    accesses = omega (arith, P .fewAccesses, short);
-    merges = omega (arith, P .fewMerges);
-  }
-    where
-      short : length (st .order) ≤ R
-      short = order-length S law words (P .live .places) st (P .live .invariant)
-
--- ---- for the code above
-module _ (S : Setup) (law : Lawful S) (words : ℕ → S .Word) where
-  open Setup S using (k, R)
-
-  -- a drain from any state that events reach runs few rounds
-  pub drain-from : (es : List Event) → All (Fits S) es → (n c : ℕ) → drainRun S n (record { state = runEvents S es (start S words); rounds = c }) .rounds ≤ c + R * (2 * k + 2)
-  drain-from es fit n c =
-      let z = drain-live S law words n (R * (2 * k + 2)) (record { state = runEvents S es (start S words); rounds = c }) (events-live S law words es fit (start S words) (R * (2 * k + 2)) (start-live S law words)) in
-      omega (arith, z .1)
-
-  -- and of the rounds of all drains so far no more than the bound, inside a drain too
-  pub drain-within : (acts : List Act) → All (Named k) acts → (n : ℕ) → drainRun S n (runActs S acts (atStart S words)) .rounds ≤ R * (2 * k + 2)
-  drain-within acts named n =
-      let z = acts-live S law words acts named (R * (2 * k + 2)) (atStart S words) (start-live S law words) in
-      let y = drain-live S law words n (z .0) (runActs S acts (atStart S words)) (z .2) in
-      omega (arith, z .1, y .1)
-
-  -- a state that acts reach is one that events reach
-  pub acts-sound : (acts : List Act) → All (Named k) acts → Sound S (runActs S acts (atStart S words) .state)
-  acts-sound acts named = rw (acts-events S acts (atStart S words))
-      (spent-sound S law words _ (events-spent S law words (eventsOf S acts (start S words)) (acts-fit S law acts named (start S words)) (start S words) (start-spent S law words)))
+use Rattle.machine.proofs.Moments.{acts-events, acts-fit, after-final, every-moment}
+use Rattle.machine.proofs.Drain.{step-keeps-live, acts-live}
+use Rattle.machine.proofs.Time.{every-two-in-time}
+use Rattle.machine.proofs.Ordered.{live-ordered}
+use Rattle.machine.proofs.OnePlace.{live-place}
+use Rattle.machine.proofs.Rest.{drain-answers-all, drained-from, drained-within}
+use Rattle.machine.proofs.StepCounts.{run-accesses, run-merges}
 
 pub demand3 : (S : Setup) → Lawful S → (words : ℕ → S .Word) (acts : List Act) → All (Named (S .k)) acts → Demand3 S words acts
 unfolding moments
 demand3 S law words acts named =
     let bound = S .R * (2 * S .k + 2) in
     let first = start-live S law words in
+    let lives = every-moment S law (λ st. Live S words st bound) (step-keeps-live S law words bound) acts named (start S words) first in
     let events = eventsOf S acts (start S words) in
-    let fit : All (Fits S) events = acts-fit S law acts named (start S words) in
-    let after = after-live S law words events fit (start S words) bound first in
     let end = acts-live S law words acts named bound (atStart S words) first in
     record {
-      everyMoment = cons (live-ordered S law words (start S words) first) (all-map (live-ordered S law words) after);
-      everyTwo = after-in-time S law words events fit (start S words) bound first;
-      onePlace = cons (live-place S law words (start S words) first) (all-map (live-place S law words) after);
+      everyMoment = all-map (live-ordered S words law) lives;
+      everyTwo = every-two-in-time S words law bound (acts-fit S law acts named (start S words)) (start S words) first;
+      onePlace = all-map (live-place S words) lives;
       lastMoment = after-final S events (start S words) ∙ sym (acts-events S acts (atStart S words));
       rounds = omega (arith, end .1);
-      drained = λ n l. drain-answers S law words n (end .0) (runActs S acts (atStart S words)) (end .2) (omega (arith, end .1));
+      drained = drain-answers-all S law words acts named;
+      drainedFrom = drained-from S law words acts named;
+      drainedWithin = drained-within S law words acts named;
       accesses = ap (λ (st : State S). st .accesses) (acts-events S acts (atStart S words)) ∙ run-accesses S words events;
       mergings = ap (λ (st : State S). st .merges) (acts-events S acts (atStart S words)) ∙ run-merges S words events;
     }
-
-pub sound : (S : Setup) → Lawful S → (words : ℕ → S .Word) (es : List Event) → All (λ e. levelFits (S .k) (e .what) (e .level) ≡ true) es → Sound S (runEvents S es (start S words))
-sound S law words es fit = spent-sound S law words (runEvents S es (start S words)) (events-spent S law words es fit (start S words) (start-spent S law words))

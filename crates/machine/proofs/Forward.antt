@@ -12,12 +12,13 @@ use Rattle.lists.proofs.Tests.{by-cases}
 use Rattle.lists.proofs.Every.{all-head, all-tail, all-map, all-append}
 use Rattle.lists.proofs.Tables.{update-same, update2-same, update2-level, update2-position, update2-ind, update2-idle}
 use Rattle.lists.proofs.Counts.{distinct-head, distinct-tail, distinct-append}
+use Rattle.lists.proofs.Stacks.{concat-append, stack, stack-onward}
 use Rattle.machine.specs.Setup.{Setup, Message, WaitRecord, Reply, place}
 use Rattle.machine.specs.Arrival.{recordsOf}
-use Rattle.machine.specs.State.{State}
+use Rattle.machine.specs.State.{State, withRequests, withWaits}
 use Rattle.machine.specs.Steps.{nodeAt, sent}
 use Rattle.machine.specs.Lawful.{Lawful}
-use Rattle.machine.proofs.Lists.{concat-append, stack, stack-onward, relabel}
+use Rattle.machine.proofs.Labels.{relabel}
 use Rattle.machine.proofs.Records.{records-none}
 use Rattle.machine.proofs.Tags.{messageTag, replyTag}
 use Rattle.machine.proofs.Tree.{inOrder, treeOf, tree-onward}
@@ -52,7 +53,7 @@ module _ (S : Setup) (words : ℕ → S .Word) (places : ℕ → ℕ) (st : Stat
 -- ---- it goes to the end of the next queue
 module _ (S : Setup) (law : Lawful S) (words : ℕ → S .Word) (places : ℕ → ℕ) (st : State S) (I : Invariant S words places st)
     (s p : ℕ) (m : Message S) (rest : List (Message S)) (is : st .requests s p ≡ m ∷ rest) (lt : s < S .k) where
-  open Setup S using (Word, apply, k, addressOf, position)
+  open Setup S using (k, position)
 
   abbrev p′ : ℕ
   p′ = place S (m .tag) (suc s)
@@ -65,28 +66,10 @@ module _ (S : Setup) (law : Lawful S) (words : ℕ → S .Word) (places : ℕ �
 
   -- the state after it, the wait buffers as they were
   abbrev after : State S
-  after = record {
-    requests = update2 (update2 (st .requests) s p rest) (suc s) p′ (st .requests (suc s) p′ ++ (m ∷ []));
-    waits = st .waits;
-    replies = st .replies;
-    words = st .words;
-    order = st .order;
-    answers = st .answers;
-    accesses = st .accesses;
-    merges = st .merges;
-  }
+  after = withRequests S (update2 (update2 (st .requests) s p rest) (suc s) p′ (st .requests (suc s) p′ ++ (m ∷ []))) st
 
   pub after-is : after ≡ sent S st s p rest p′ (withBehind S (nodeAt S st (suc s) p′) m) (st .merges)
-  after-is i = record {
-    requests = update2 (update2 (st .requests) s p rest) (suc s) p′ (st .requests (suc s) p′ ++ (m ∷ []));
-    waits = sym (update2-idle (st .waits) (suc s) p′) i;
-    replies = st .replies;
-    words = st .words;
-    order = st .order;
-    answers = st .answers;
-    accesses = st .accesses;
-    merges = st .merges;
-  }
+  after-is i = withWaits S (sym (update2-idle (st .waits) (suc s) p′) i) after
 
   forward-line : (e a : ℕ) → stack (segment S after e a) k ≡ stack (segment S st e a) k
   forward-line e a =

@@ -17,15 +17,26 @@ use Rattle.lists.proofs.Tests.{by-cases, test-cases}
 use Rattle.lists.proofs.Every.{all-map, all-map2}
 use Rattle.lists.proofs.Tables.{update-same, update-other}
 use Rattle.lists.proofs.Searches.{only-append, only-none}
+use Rattle.lists.proofs.Stacks.{concat, stack}
 use Rattle.machine.specs.Setup.{Setup, Message, WaitRecord, Reply, place}
 use Rattle.machine.specs.State.{State, tagsBelow}
 use Rattle.machine.specs.Single.{runSingly, reads}
 use Rattle.machine.specs.Lawful.{Lawful}
-use Rattle.machine.proofs.Lists.{concat, stack, away}
+use Rattle.machine.proofs.Labels.{away}
 use Rattle.machine.proofs.Tags.{messageTag, waiterTag, replyTag}
 use Rattle.machine.proofs.Tree.{Waits, inOrder, treeOf}
 use Rattle.machine.proofs.Served.{runOn, Faithful, Served}
 use Rattle.machine.proofs.Members.{Link, near}
+
+-- ---- A place is a number: 4 s in the request queue of level s, 4 s + 1 second in a wait record there, 4 s + 2 in the reply queue there,
+-- 3 collected. From level s up, but not waiting there:
+abbrev pub Above : ℕ → ℕ → Type 0
+Above s c = (4 * s ≤ c) × (c ≢ 4 * s + 1)
+
+pub above-update : (places : ℕ → ℕ) (t v j c : ℕ) → (Above j (places t) → Above j v) → Above j (places c) → Above j (update places t v c)
+above-update places t v j c f h = by-cases (ℕ-discrete c t)
+    (λ (e : c ≡ t). rw (e, update-same) (f (rw e at h)))
+    (λ (n : c ≢ t). rw (update-other places t v n) h)
 
 module _ (S : Setup) where
   open Setup S using (Word, apply, k, R, engineOf, addressOf, position)
@@ -46,15 +57,11 @@ module _ (S : Setup) where
       off t n = test-cases (λ b. both b (eqb (addressOf t) a) ≡ false) (eqb (engineOf t) e)
           (λ p. test-cases (λ b. b ≡ false) (eqb (addressOf t) a) (λ q. absurd (n (eqb-true (engineOf t) e p, eqb-true (addressOf t) a q))) (λ _. refl)) (λ _. refl)
 
-  -- ---- what holds. A place is a number: 4 s in the request queue of level s, 4 s + 1 second in a wait record there, 4 s + 2 in the reply
-  -- queue there, 3 collected.
+  -- ---- what holds
   -- a message stands on its path, has its request's address, and does what the requests of its tree do one after another
   abbrev pub Requested : Waits S → ℕ → ℕ → Message S → Type 0
   Requested waits s p m =
       (place S (m .tag) s ≡ p) × Faithful S (treeOf S waits s (m .tag)) × ((x : Word) → apply (m .operation) x ≡ runOn S (inOrder S (treeOf S waits s (m .tag))) x) × (m .address ≡ addressOf (m .tag))
-
-  abbrev pub Above : ℕ → ℕ → Type 0
-  Above s c = (4 * s ≤ c) × (c ≢ 4 * s + 1)
 
   -- a wait record's two requests stand on their paths, and the first is further up
   abbrev pub Waiting : (ℕ → ℕ) → ℕ → ℕ → WaitRecord S → Type 0
@@ -79,14 +86,9 @@ module _ (S : Setup) where
     pub memory : (a : ℕ) → st .words a ≡ runSingly S (st .order) words a
     -- the requests of one engine to one word: those in the list, then those under way from level k down, then the unissued, are all
     -- there are, in trace order
-    pub line : (e a : ℕ) → kept e a (st .order) ++ stack (segment st e a) k ≡ kept e a (tagsBelow S R)
+    pub line : (e a : ℕ) → kept e a (st .order) ++ stack (segment st e a) k ≡ kept e a (tagsBelow R)
 
   -- ---- laws that the moves share
-  pub above-update : (places : ℕ → ℕ) (t v j c : ℕ) → (Above j (places t) → Above j v) → Above j (places c) → Above j (update places t v c)
-  above-update places t v j c f h = by-cases (ℕ-discrete c t)
-      (λ (e : c ≡ t). rw (e, update-same) (f (rw e at h)))
-      (λ (n : c ≢ t). rw (update-other places t v n) h)
-
   pub waiting-relabel : (places : ℕ → ℕ) (t v j q : ℕ) {xs : List (WaitRecord S)} → (Above j (places t) → Above j v)
       → All (λ (r : WaitRecord S). (places (r .second) ≡ 4 * j + 1) × Waiting places j q r) xs → All (λ (r : WaitRecord S). r .second ≢ t) xs
       → All (λ (r : WaitRecord S). (update places t v (r .second) ≡ 4 * j + 1) × Waiting (update places t v) j q r) xs

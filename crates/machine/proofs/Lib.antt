@@ -1,4 +1,4 @@
-pub mod Lists
+pub mod Labels
 pub mod Tags
 pub mod Records
 pub mod Tree
@@ -17,13 +17,14 @@ pub mod Start
 pub mod Arrivals
 pub mod StepsMove
 pub mod Rounds
+pub mod Moments
 pub mod Drain
 pub mod Ordered
 pub mod OnePlace
 pub mod Time
-pub mod Moments
 pub mod StepCounts
 pub mod Rooms
 pub mod Rest
+pub mod Sound
 pub mod Demand3
 pub mod Omega

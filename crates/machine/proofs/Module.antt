@@ -12,12 +12,13 @@ use Rattle.lists.proofs.Tests.{by-cases}
 use Rattle.lists.proofs.Every.{all-tail, all-map, all-append}
 use Rattle.lists.proofs.Tables.{update-same, update-other, update2-same, update2-level, update2-position, update2-ind}
 use Rattle.lists.proofs.Counts.{distinct-tail, distinct-append}
+use Rattle.lists.proofs.Stacks.{stack, stack-leaves}
 use Rattle.machine.specs.Setup.{Setup, Message, Reply}
 use Rattle.machine.specs.State.{State}
 use Rattle.machine.specs.Steps.{taken}
 use Rattle.machine.specs.Single.{runSingly, reads}
 use Rattle.machine.specs.Lawful.{Lawful}
-use Rattle.machine.proofs.Lists.{stack, stack-leaves, relabel}
+use Rattle.machine.proofs.Labels.{relabel}
 use Rattle.machine.proofs.Tags.{messageTag, replyTag}
 use Rattle.machine.proofs.Tree.{inOrder, treeOf, stands-tree}
 use Rattle.machine.proofs.Served.{readsOn, served-map, faithful-served}
@@ -28,7 +29,7 @@ use Rattle.machine.proofs.Forward.{oldest, oldest-rest, oldest-requests
 
 module _ (S : Setup) (law : Lawful S) (words : ℕ → S .Word) (places : ℕ → ℕ) (st : State S) (I : Invariant S words places st)
     (p : ℕ) (m : Message S) (rest : List (Message S)) (is : st .requests (S .k) p ≡ m ∷ rest) where
-  open Setup S using (Word, apply, k, addressOf, position)
+  open Setup S using (apply, k, addressOf, position)
 
   -- the place of m from now on
   abbrev c : ℕ

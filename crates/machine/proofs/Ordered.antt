@@ -10,27 +10,28 @@ use lib.Dec.{eqb}
 use Rattle.lists.specs.Choice.{choose, both}
 use Rattle.lists.specs.Search.{only}
 use Rattle.lists.specs.Count.{count, same}
-use Rattle.lists.proofs.Tests.{eqb-cases}
+use Rattle.lists.proofs.Tests.{eqb-cases, test-clash}
 use Rattle.lists.proofs.Every.{all-map}
-use Rattle.lists.proofs.Counts.{same-no, count-append}
+use Rattle.lists.proofs.Counts.{same-no, count-append, itself, counted-all, no-longer}
+use Rattle.lists.proofs.Stacks.{concat, stack, stack-count}
 use Rattle.machine.specs.Setup.{Setup, Message, Reply, place}
 use Rattle.machine.specs.State.{State, tagsBelow}
 use Rattle.machine.specs.Run.{isAnswered}
 use Rattle.machine.specs.Single.{reads}
 use Rattle.machine.specs.Order.{Ordered, Unissued}
 use Rattle.machine.specs.Lawful.{Lawful}
-use Rattle.machine.proofs.Lists.{clash, concat, stack, itself, no-longer, all-members, stack-count}
 use Rattle.machine.proofs.Tags.{messageTag}
 use Rattle.machine.proofs.Tree.{treeOf}
 use Rattle.machine.proofs.Served.{served-root}
 use Rattle.machine.proofs.Singly.{reads-member}
 use Rattle.machine.proofs.Invariant.{Invariant, kept, segment}
 use Rattle.machine.proofs.Return.{oldest-reply}
+use Rattle.machine.proofs.Progress.{Live}
 use Rattle.machine.proofs.Start.{tags-once, tags-inside, tags-length}
 use Rattle.machine.proofs.Drain.{below-answered}
 
 module _ (S : Setup) where
-  open Setup S using (Word, k, R, engineOf, addressOf, position)
+  open Setup S using (Word, k, R, engineOf, addressOf)
 
   -- a request is kept where its own engine and address are
   kept-count : (u : ℕ) (xs : List ℕ) → count itself u (kept S (engineOf u) (addressOf u) xs) ≡ count itself u xs
@@ -46,34 +47,26 @@ module _ (S : Setup) where
   tags-count u [] = refl
   tags-count u (m ∷ l) = omega (arith, tags-count u l)
 
-  module _ (law : Lawful S) (words : ℕ → Word) (places : ℕ → ℕ) (st : State S) (I : Invariant S words places st) where
+  module _ (words : ℕ → Word) (places : ℕ → ℕ) (st : State S) (I : Invariant S words places st) where
     -- every request of the trace stands in the order list, or in the line to it
-    line-count : (u : ℕ) → count itself u (st .order) + count itself u (stack (segment S st (engineOf u) (addressOf u)) k) ≡ count itself u (tagsBelow S R)
-    line-count u = let z = ap (count itself u) (I .line (engineOf u) (addressOf u)) in omega (arith, kept-count u (st .order), kept-count u (tagsBelow S R), rw count-append at z)
+    line-count : (u : ℕ) → count itself u (st .order) + count itself u (stack (segment S st (engineOf u) (addressOf u)) k) ≡ count itself u (tagsBelow R)
+    line-count u = let z = ap (count itself u) (I .line (engineOf u) (addressOf u)) in omega (arith, kept-count u (st .order), kept-count u (tagsBelow R), rw count-append at z)
 
     pub order-inside : (u : ℕ) → 1 ≤ count itself u (st .order) → u < R
-    order-inside u h = tags-inside S R u (omega (arith, line-count u))
+    order-inside u h = tags-inside R u (omega (arith, line-count u))
 
-    pub order-once : (u : ℕ) → count itself u (st .order) ≤ 1
-    order-once u = omega (arith, line-count u, tags-once S R u)
+    order-once : (u : ℕ) → count itself u (st .order) ≤ 1
+    order-once u = omega (arith, line-count u, tags-once R u)
 
     pub order-length : length (st .order) ≤ R
-    order-length = omega (arith, no-longer (st .order) (tagsBelow S R) (λ u. omega (arith, line-count u)), tags-length S R)
+    order-length = omega (arith, no-longer (st .order) (tagsBelow R) (λ u. omega (arith, line-count u)), tags-length R)
 
-    segment-unissued : (u : ℕ) → count itself u (segment S st (engineOf u) (addressOf u) 0) ≡ count (messageTag S) u (st .requests 0 (engineOf u))
-    unfolding treeOf
-    segment-unissued u = kept-count u _ ∙ tags-count u (st .requests 0 (place S u 0)) ∙ ap (λ (e : ℕ). count (messageTag S) u (st .requests 0 e)) (law .place-engine u)
-
-    -- what is unissued is not in the list
-    pub unissued-absent : (u : ℕ) → Unissued S words st u → count itself u (st .order) ≡ 0
-    unissued-absent u h = omega (arith, line-count u, tags-once S R u, segment-unissued u, stack-count itself u (segment S st (engineOf u) (addressOf u)) k)
-
-    -- what is collected is
+    -- what is collected is in the list
     pub collected-member : (t : ℕ) (v : Word) → st .answers t ≡ some v → List·Memᴰ t (st .order)
     collected-member t v e = reads-member S _ (st .order) words (I .collected t v e .1)
 
     answered-member : (t : ℕ) (o : Option Word) → st .answers t ≡ o → isAnswered S o ≡ true → List·Memᴰ t (st .order)
-    answered-member t none e h = clash h refl
+    answered-member t none e h = test-clash h refl
     answered-member t (some v) e h = collected-member t v e
 
     -- what is about to be collected has no answer
@@ -84,15 +77,28 @@ module _ (S : Setup) where
         go none h = h
         go (some v) h = absurd (omega (arith, I .collected (r .tag) v h .0, oldest-reply S words places st I 0 e r rest is .0))
 
-    pub ordered : Ordered S words st
-    unfolding kept
-    ordered = record {
-      distinct = order-once;
-      issued = all-members (st .order) (λ t h. (order-inside t h, λ z. omega (arith, unissued-absent t z)));
-      memory = λ a. sym (I .memory a);
-      collected = λ t v e. I .collected t v e .1;
-      underWay = λ s p. all-map (λ r h. served-root S (reads S (st .order) words) (st .waits) s (r .tag) (r .value) (h .1 .1)) (I .replying s p);
-      asIssued = λ e a. (_, I .line e a);
-      once = reply-unanswered;
-      complete = λ h t l. answered-member t (st .answers t) refl (below-answered S st R h t l);
-    }
+    module _ (law : Lawful S) where
+      segment-unissued : (u : ℕ) → count itself u (segment S st (engineOf u) (addressOf u) 0) ≡ count (messageTag S) u (st .requests 0 (engineOf u))
+      unfolding treeOf
+      segment-unissued u = kept-count u _ ∙ tags-count u (st .requests 0 (place S u 0)) ∙ ap (λ (e : ℕ). count (messageTag S) u (st .requests 0 e)) (law .place-engine u)
+
+      -- what is unissued is not in the list
+      pub unissued-absent : (u : ℕ) → Unissued S st u → count itself u (st .order) ≡ 0
+      unissued-absent u h = omega (arith, line-count u, tags-once R u, segment-unissued u, stack-count itself u (segment S st (engineOf u) (addressOf u)) k)
+
+      ordered : Ordered S words st
+      unfolding kept
+      ordered = record {
+        distinct = order-once;
+        issued = counted-all itself (λ t. _) (st .order) (λ t h. (order-inside t h, λ z. omega (arith, unissued-absent t z)));
+        memory = λ a. sym (I .memory a);
+        collected = λ t v e. I .collected t v e .1;
+        underWay = λ s p. all-map (λ r h. served-root S (reads S (st .order) words) (st .waits) s (r .tag) (r .value) (h .1 .1)) (I .replying s p);
+        asIssued = λ e a. (_, I .line e a);
+        once = reply-unanswered;
+        complete = λ h t l. answered-member t (st .answers t) refl (below-answered S st R h t l);
+      }
+
+-- of a state with moves left
+pub live-ordered : (S : Setup) (words : ℕ → S .Word) → Lawful S → {n : ℕ} (st : State S) → Live S words st n → Ordered S words st
+live-ordered S words law st L = ordered S words (L .places) st (L .invariant) law

@@ -21,8 +21,8 @@ use Rattle.machine.proofs.Module.{module-keeps}
 use Rattle.machine.proofs.Return.{oldest-reply, second, answer-keeps, lower-keeps, collect-keeps}
 use Rattle.machine.proofs.Places.{atEnd, atRequest, atWait, atReply, wait-level, reply-level, remaining, remaining-request, remaining-wait, remaining-reply, remaining-end, left, left-falls, Held, Goes, goes-held}
 
-module _ (S : Setup) (law : Lawful S) (words : ℕ → S .Word) where
-  open Setup S using (k, R)
+module _ (S : Setup) (words : ℕ → S .Word) where
+  open Setup S using (R)
 
   -- a state that the invariant holds of, with at most n moves left
   pub record Live (st : State S) (n : ℕ) : Type 0 where
@@ -38,8 +38,11 @@ module _ (S : Setup) (law : Lawful S) (words : ℕ → S .Word) where
   pub live-more : {st : State S} {n : ℕ} (n′ : ℕ) → n ≤ n′ → Live st n → Live st n′
   live-more n′ l L = record { places = L .places; invariant = L .invariant; held = L .held; bound = omega (arith, L .bound) }
 
+module _ (S : Setup) (law : Lawful S) (words : ℕ → S .Word) where
+  open Setup S using (k, R)
+
   module _ (places : ℕ → ℕ) (st : State S) (I : Invariant S words places st) (H : Held S places st) (n : ℕ) (b : left S places R ≤ n) where
-    go : (t v : ℕ) {st′ : State S} → Invariant S words (update places t v) st′ → Goes S places st st′ t v → remaining S v < remaining S (places t) → Nearer st′ n
+    go : (t v : ℕ) {st′ : State S} → Invariant S words (update places t v) st′ → Goes S places st st′ t v → remaining S v < remaining S (places t) → Nearer S words st′ n
     go t v {st′} I′ G less = (
       left S (update places t v) R,
       omega (arith, left-falls S places t v less R (H .known t (G .uncollected))),
@@ -64,7 +67,7 @@ module _ (S : Setup) (law : Lawful S) (words : ℕ → S .Word) where
           (λ j q _. update2-ind _ _ _ _ (λ j q l. count (messageTag S) u (st .requests j q) ≤ count (messageTag S) u l)
           (rw is (lost (messageTag S) u m rest n)) (λ j q _. omega arith) j q)
 
-      append-live : Nearer (sent S st s p rest p′ (withBehind S (nodeAt S st (suc s) p′) m) (st .merges)) n
+      append-live : Nearer S words (sent S st s p rest p′ (withBehind S (nodeAt S st (suc s) p′) m) (st .merges)) n
       append-live = go (m .tag) (4 * suc s) (forward-keeps S law words places st I s p m rest is lt)
           (record {
             to = atRequest (suc s) lt refl;
@@ -83,7 +86,7 @@ module _ (S : Setup) (law : Lawful S) (words : ℕ → S .Word) where
       merge-live : (older : List (Message S)) (f : Message S) (younger : List (Message S)) (o : S .Operation)
           → st .requests (suc s) p′ ≡ older ++ (f ∷ younger)
           → Invariant S words (update places (m .tag) (4 * suc s + 1)) (sent S st s p rest p′ (withMerged S (nodeAt S st (suc s) p′) m older f younger o) (suc (st .merges)))
-          → Nearer (sent S st s p rest p′ (withMerged S (nodeAt S st (suc s) p′) m older f younger o) (suc (st .merges))) n
+          → Nearer S words (sent S st s p rest p′ (withMerged S (nodeAt S st (suc s) p′) m older f younger o) (suc (st .merges))) n
       merge-live older f younger o parts I′ = go (m .tag) (4 * suc s + 1) I′
           (record {
             to = atWait s lt refl;
@@ -99,7 +102,7 @@ module _ (S : Setup) (law : Lawful S) (words : ℕ → S .Word) where
           })
           (rw (here, remaining-request S, remaining-wait S) (omega arith))
 
-    serve-live : (p : ℕ) (m : Message S) (rest : List (Message S)) → st .requests k p ≡ m ∷ rest → Nearer (taken S st p m rest) n
+    serve-live : (p : ℕ) (m : Message S) (rest : List (Message S)) → st .requests k p ≡ m ∷ rest → Nearer S words (taken S st p m rest) n
     serve-live p m rest is =
         let here = oldest S words places st I k p m rest is in
         go (m .tag) (4 * k + 2) (module-keeps S law words places st I p m rest is)
@@ -119,9 +122,9 @@ module _ (S : Setup) (law : Lawful S) (words : ℕ → S .Word) where
         (rw (here .0, remaining-request S, remaining-reply S) (omega arith))
 
     answer-live : (s p : ℕ) (t : Reply S) (rest : List (Reply S)) (older : List (WaitRecord S)) (r : WaitRecord S) (younger : List (WaitRecord S)) → st .replies (suc s) p ≡ t ∷ rest
-        → st .waits (suc s) p ≡ older ++ (r ∷ younger) → r .first ≡ t .tag → Nearer (split S st s p t (older ++ younger) r (place S (r .second) s)) n
+        → st .waits (suc s) p ≡ older ++ (r ∷ younger) → r .first ≡ t .tag → Nearer S words (split S st s p t (older ++ younger) r (place S (r .second) s)) n
     answer-live s p t rest older r younger is parts of =
-        let here = second S words places st I s p t rest older r younger is parts of .0 in
+        let here = second S words places st I s p older r younger parts .0 in
         go (r .second) (4 * s + 2) (answer-keeps S words places st I s p t rest older r younger is parts of)
         (record {
           to = atReply s (omega (arith, wait-level S s here (H .spot (r .second)))) refl;
@@ -139,7 +142,7 @@ module _ (S : Setup) (law : Lawful S) (words : ℕ → S .Word) where
         (rw (here, remaining-wait S, remaining-reply S) (omega arith))
 
     lower-live : (s p : ℕ) (t : Reply S) (rest : List (Reply S)) → st .replies (suc s) p ≡ t ∷ rest
-        → Invariant S words (update places (t .tag) (4 * s + 2)) (lowered S st s p t rest (place S (t .tag) s)) → Nearer (lowered S st s p t rest (place S (t .tag) s)) n
+        → Invariant S words (update places (t .tag) (4 * s + 2)) (lowered S st s p t rest (place S (t .tag) s)) → Nearer S words (lowered S st s p t rest (place S (t .tag) s)) n
     lower-live s p t rest is I′ =
         let here = oldest-reply S words places st I (suc s) p t rest is .0 in
         go (t .tag) (4 * s + 2) I′
@@ -159,7 +162,7 @@ module _ (S : Setup) (law : Lawful S) (words : ℕ → S .Word) where
         })
         (rw (here, remaining-reply S, remaining-reply S) (omega arith))
 
-    collect-live : (e : ℕ) (t : Reply S) (rest : List (Reply S)) → st .replies 0 e ≡ t ∷ rest → Nearer (collectOldest S st e (t ∷ rest)) n
+    collect-live : (e : ℕ) (t : Reply S) (rest : List (Reply S)) → st .replies 0 e ≡ t ∷ rest → Nearer S words (collectOldest S st e (t ∷ rest)) n
     unfolding collectOldest
     collect-live e t rest is =
         let here = oldest-reply S words places st I 0 e t rest is .0 in
@@ -180,7 +183,7 @@ module _ (S : Setup) (law : Lawful S) (words : ℕ → S .Word) where
         (rw (here, remaining-end S, remaining-reply S 0) (omega arith))
 
   -- after each move less is left
-  pub move-live : {a b : State S} → Move S a b → (n : ℕ) → Live a n → Nearer b n
+  pub move-live : {a b : State S} → Move S a b → (n : ℕ) → Live S words a n → Nearer S words b n
   move-live {a} (appending s p m rest lt is) n L = append-live (L .places) a (L .invariant) (L .held) n (L .bound) s p m rest lt is
   move-live {a} (merging s p m rest older f younger o lt is parts same last applies) n L =
       merge-live (L .places) a (L .invariant) (L .held) n (L .bound) s p m rest lt is older f younger o parts

@@ -13,12 +13,13 @@ use Rattle.lists.proofs.Tests.{by-cases}
 use Rattle.lists.proofs.Every.{all-head, all-tail, all-map, all-map2, all-append, all-left, all-right}
 use Rattle.lists.proofs.Tables.{update-same, update-other, update2-ind}
 use Rattle.lists.proofs.Counts.{distinct-head, distinct-tail, distinct-append, distinct-drop, distinct-middle}
+use Rattle.lists.proofs.Stacks.{concat-eq, stack, stack-same}
 use Rattle.machine.specs.Setup.{Setup, Message, WaitRecord, Reply, place}
 use Rattle.machine.specs.Arrival.{recordsOf}
 use Rattle.machine.specs.State.{State}
 use Rattle.machine.specs.Steps.{split, lowered, collectOldest}
 use Rattle.machine.specs.Single.{reads}
-use Rattle.machine.proofs.Lists.{concat-eq, stack, stack-same, relabel}
+use Rattle.machine.proofs.Labels.{relabel}
 use Rattle.machine.proofs.Records.{none-records}
 use Rattle.machine.proofs.Tags.{messageTag, waiterTag, replyTag}
 use Rattle.machine.proofs.Tree.{inOrder, treeOf, tree-onward, gone-below, gone-other}
@@ -40,7 +41,15 @@ module _ (S : Setup) (words : ℕ → S .Word) (places : ℕ → ℕ) (st : Stat
     reply-replies j q n =
         all-map (λ y h e. let z : j ≡ s = omega (arith, h .0, oldest-reply .0, ap places e) in n (z, sym (h .1 .0) ∙ ap₂ (place S) e z ∙ oldest-reply .1 .0)) (I .replying j q)
 
-  -- ---- a second is answered
+  -- ---- a second of a wait buffer
+  module _ (s p : ℕ) (older : List (WaitRecord S)) (r : WaitRecord S) (younger : List (WaitRecord S)) (parts : st .waits (suc s) p ≡ older ++ (r ∷ younger)) where
+    buffer : All (λ (y : WaitRecord S). (places (y .second) ≡ 4 * suc s + 1) × Waiting S places (suc s) p y) (older ++ (r ∷ younger))
+    buffer = rw parts at (I .waiting (suc s) p)
+
+    pub second : (places (r .second) ≡ 4 * suc s + 1) × Waiting S places (suc s) p r
+    second = all-head (all-right older buffer)
+
+  -- ---- it is answered
   module _ (s p : ℕ) (t : Reply S) (rest : List (Reply S)) (older : List (WaitRecord S)) (r : WaitRecord S) (younger : List (WaitRecord S))
       (is : st .replies (suc s) p ≡ t ∷ rest) (parts : st .waits (suc s) p ≡ older ++ (r ∷ younger)) (of : r .first ≡ t .tag) where
     -- the place of the second from now on
@@ -53,11 +62,11 @@ module _ (S : Setup) (words : ℕ → S .Word) (places : ℕ → ℕ) (st : Stat
     abbrev after : ℕ → ℕ → List (WaitRecord S)
     after = update2 (st .waits) (suc s) p (older ++ younger)
 
-    buffer : All (λ (y : WaitRecord S). (places (y .second) ≡ 4 * suc s + 1) × Waiting S places (suc s) p y) (older ++ (r ∷ younger))
-    buffer = rw parts at (I .waiting (suc s) p)
+    abbrev others : All (λ (y : WaitRecord S). (places (y .second) ≡ 4 * suc s + 1) × Waiting S places (suc s) p y) (older ++ (r ∷ younger))
+    others = buffer s p older r younger parts
 
-    pub second : (places (r .second) ≡ 4 * suc s + 1) × Waiting S places (suc s) p r
-    second = all-head (all-right older buffer)
+    abbrev behind : (places (r .second) ≡ 4 * suc s + 1) × Waiting S places (suc s) p r
+    behind = second s p older r younger parts
 
     first : places (r .first) ≡ 4 * suc s + 2
     first = ap places of ∙ reply .0
@@ -77,26 +86,26 @@ module _ (S : Setup) (words : ℕ → S .Word) (places : ℕ → ℕ) (st : Stat
         h .1 .0,
         by-cases (ℕ-discrete (y .tag) (r .first))
             (λ (e : y .tag ≡ r .first). let i : j ≡ suc s = omega (arith, h .0, first, ap places e) in
-            rw (e, i) (gone-first S (st .waits) s p older r younger parts (second .1 .0 .0) (reads S (st .order) words) (y .value) (rw (e, i) at (h .1 .1))))
+            rw (e, i) (gone-first S (st .waits) s p older r younger parts (behind .1 .0 .0) (reads S (st .order) words) (y .value) (rw (e, i) at (h .1 .1))))
             (λ (n : y .tag ≢ r .first). rw (tree-elsewhere j (y .tag) n) (h .1 .1)),
       ),
     )
 
     stand : (j q : ℕ) → All (λ (y : Reply S). (update places (r .second) c (y .tag) ≡ 4 * j + 2) × Replying S after (reads S (st .order) words) j q y) (st .replies j q)
-    stand j q = all-map2 (still-reply j q) (I .replying j q) (far-replies S words places st I (r .second) (4 * suc s + 1) (second .0) j q (omega arith))
+    stand j q = all-map2 (still-reply j q) (I .replying j q) (far-replies S words places st I (r .second) (4 * suc s + 1) (behind .0) j q (omega arith))
 
     -- the second's own tree is served with what its record gives
     answer : Replying S after (reads S (st .order) words) s (place S (r .second) s) (record { tag = r .second; value = apply (r .operation) (t .value) })
     answer = (
       refl,
-      rw (gone-below S (st .waits) s p older r younger parts s (r .second) (omega arith))
-          (gone-second S (st .waits) s p older r younger parts (second .1 .0 .0) (reads S (st .order) words) (t .value) (rw of (reply .1 .1))),
+      rw (gone-below S (st .waits) s p (older ++ younger) s (r .second) (omega arith))
+          (gone-second S (st .waits) s p older r younger parts (behind .1 .0 .0) (reads S (st .order) words) (t .value) (rw of (reply .1 .1))),
     )
 
     -- it waits nowhere else
     lone : (j q : ℕ) → ¬ ((j ≡ suc s) × (q ≡ p)) → All (λ (y : WaitRecord S). y .second ≢ r .second) (st .waits j q)
     lone j q n =
-        all-map (λ y h e. let i : j ≡ suc s = omega (arith, h .0, second .0, ap places e) in n (i, sym (h .1 .0 .1) ∙ ap₂ (place S) e i ∙ second .1 .0 .1)) (I .waiting j q)
+        all-map (λ y h e. let i : j ≡ suc s = omega (arith, h .0, behind .0, ap places e) in n (i, sym (h .1 .0 .1) ∙ ap₂ (place S) e i ∙ behind .1 .0 .1)) (I .waiting j q)
 
     -- the first tag stands in no request queue
     not-requested : (i q : ℕ) → All (λ (y : Message S). y .tag ≢ r .first) (st .requests i q)
@@ -109,21 +118,21 @@ module _ (S : Setup) (words : ℕ → S .Word) (places : ℕ → ℕ) (st : Stat
     pub answer-keeps : Invariant S words (update places (r .second) (4 * s + 2)) (split S st s p t (older ++ younger) r (place S (r .second) s))
     answer-keeps = record {
       requested = λ j q. all-map2 (still j q)
-          (relabel (messageTag S) places (r .second) (4 * j) c (I .requested j q) (far-requests S words places st I (r .second) (4 * suc s + 1) (second .0) j q (omega arith)))
+          (relabel (messageTag S) places (r .second) (4 * j) c (I .requested j q) (far-requests S words places st I (r .second) (4 * suc s + 1) (behind .0) j q (omega arith)))
           (far-requests S words places st I (r .first) (4 * suc s + 2) first j q (omega arith));
       requestedOnce = I .requestedOnce;
       waiting = update2-ind _ _ _ _ (λ j q l. All (λ (y : WaitRecord S). (update places (r .second) c (y .second) ≡ 4 * j + 1) × Waiting S (update places (r .second) c) j q y) l)
-          (waiting-relabel S places (r .second) c (suc s) p (λ h. omega (arith, h, second .0)) (all-append (all-left older (r ∷ younger) buffer) (all-tail (all-right older buffer)))
+          (waiting-relabel S places (r .second) c (suc s) p (λ h. omega (arith, h, behind .0)) (all-append (all-left older (r ∷ younger) others) (all-tail (all-right older others)))
           (distinct-middle (waiterTag S) older r younger (rw parts at (I .waitingOnce (suc s) p))))
-          (λ j q n. waiting-relabel S places (r .second) c j q (λ h. omega (arith, h, second .0)) (I .waiting j q) (lone j q n));
+          (λ j q n. waiting-relabel S places (r .second) c j q (λ h. omega (arith, h, behind .0)) (I .waiting j q) (lone j q n));
       waitingOnce = update2-ind _ _ _ _ (λ j q l. Distinct (waiterTag S) l)
           (distinct-drop (waiterTag S) older r younger (rw parts at (I .waitingOnce (suc s) p))) (λ j q n. I .waitingOnce j q);
       replying = update2-ind _ _ _ _ (λ j q l. All (λ (y : Reply S). (update places (r .second) c (y .tag) ≡ 4 * j + 2) × Replying S after (reads S (st .order) words) j q y) l)
           (all-append (stand s (place S (r .second) s)) (cons (update-same places (r .second) c, answer) nil)) (λ j q n. stand j q);
       replyingOnce = update2-ind _ _ _ _ (λ j q l. Distinct (replyTag S) l)
           (distinct-append (replyTag S) _ (record { tag = r .second; value = apply (r .operation) (t .value) }) (I .replyingOnce s _)
-          (far-replies S words places st I (r .second) (4 * suc s + 1) (second .0) s _ (omega arith))) (λ j q n. I .replyingOnce j q);
-      collected = collected-relabel S words places st I (r .second) c (omega (arith, second .0));
+          (far-replies S words places st I (r .second) (4 * suc s + 1) (behind .0) s _ (omega arith))) (λ j q n. I .replyingOnce j q);
+      collected = collected-relabel S words places st I (r .second) c (omega (arith, behind .0));
       memory = I .memory;
       line = λ e a. rw (answer-line e a) (I .line e a);
     }

@@ -11,6 +11,8 @@ use Rattle.lists.specs.Search.{Found, absent, found}
 use Rattle.lists.specs.Table.{update2}
 use Rattle.lists.proofs.Tables.{update2-ind}
 use Rattle.lists.proofs.Searches.{Last, lastOf-is}
+use Rattle.lists.proofs.Tests.{either, ltb-either}
+use Rattle.lists.proofs.Every.{all-every}
 use Rattle.event.specs.Event.{Event}
 use Rattle.machine.specs.Setup.{Setup, Message, WaitRecord, Reply, place}
 use Rattle.machine.specs.Arrival.{Node, Arrival, merged, appended, refused, append, replaced, recorded, combine, meet, youngest, arrive, oldestOf}
@@ -18,8 +20,8 @@ use Rattle.machine.specs.State.{State, unissued, start}
 use Rattle.machine.specs.Steps.{nodeAt, sent, landed, forwardOldest, forwardStep, serveOldest, moduleStep, answered, returnOldest, returnStep, collectOldest, collectStep, step}
 use Rattle.machine.specs.Run.{runEvents}
 use Rattle.machine.specs.Rooms.{WithinRooms}
-use Rattle.machine.proofs.Lists.{either, ltb-either}
 use Rattle.machine.proofs.Arrivals.{Oldest, oldest-is}
+use Rattle.machine.proofs.Moments.{after-events}
 
 -- from a level on, no list is longer than the room
 record Short {A : Type 0} (from room : ℕ) (f : ℕ → ℕ → List A) : Type 0 where
@@ -137,8 +139,8 @@ module _ (S : Setup) where
         (either Within (eqb (e .what) 4) (collect-within (e .position))
         fit))))
 
-  -- ---- an event, a list of events, and the start
-  pub step-rooms : (e : Event) (st : State S) → WithinRooms S st → WithinRooms S (step S e st)
+  -- ---- an event, the start, and so every list of events
+  step-rooms : (e : Event) (st : State S) → WithinRooms S st → WithinRooms S (step S e st)
   step-rooms e st r =
       let z = step-within st (record { at = above }, record { at = λ s p _. r .replies s p }, record { at = λ s p _. r .waits s p }) e in
       record { requests = λ s p. z .0 .at (suc s) p (omega arith); replies = λ s p. z .1 .at s p (omega arith); waits = λ s p. z .2 .at s p (omega arith) }
@@ -147,14 +149,9 @@ module _ (S : Setup) where
       above zero p h = absurd (omega arith)
       above (suc s) p h = r .requests s p
 
-  pub events-rooms : (es : List Event) (st : State S) → WithinRooms S st → WithinRooms S (runEvents S es st)
-  unfolding runEvents
-  events-rooms [] st r = r
-  events-rooms (e ∷ es) st r = events-rooms es (step S e st) (step-rooms e st r)
-
-  pub start-rooms : (words : ℕ → S .Word) → WithinRooms S (start S words)
+  start-rooms : (words : ℕ → S .Word) → WithinRooms S (start S words)
   unfolding start unissued
   start-rooms words = record { requests = λ s p. omega arith; replies = λ s p. omega arith; waits = λ s p. omega arith }
 
   pub rooms : (words : ℕ → S .Word) (es : List Event) → WithinRooms S (runEvents S es (start S words))
-  rooms words es = events-rooms es (start S words) (start-rooms words)
+  rooms words es = after-events S {F = λ _. Unit {0}} (WithinRooms S) (λ e _. step-rooms e) (all-every (λ _. tt) es) (start S words) (start-rooms words)

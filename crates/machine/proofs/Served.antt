@@ -13,7 +13,7 @@ use Rattle.machine.proofs.Records.{records-append}
 use Rattle.machine.proofs.Tree.{Waits, Tree, leaf, join, inOrder, grown, treeOf, records-middle, gone-below}
 
 module _ (S : Setup) where
-  open Setup S using (Word, apply, addressOf, operationOf)
+  open Setup S using (Word, apply, operationOf)
 
   -- ---- what the requests of a list do to one word
   abbrev pub runOn : List ℕ → Word → Word
@@ -56,12 +56,12 @@ module _ (S : Setup) where
     rw (g .1 x) (faithful-served b (g .2) (runOn (inOrder S a) x) l (λ r h. f r (rw readsOn-append (Memᴰ·append-right (readsOn x (inOrder S a)) h)))),
   )
 
-  pub served-parts : (l : List (Reply S)) (g : ℕ → Tree S) (t : Tree S) (rs : List (WaitRecord S)) (v : Word) → Served l (grown S g t rs) v
+  served-parts : (l : List (Reply S)) (g : ℕ → Tree S) (t : Tree S) (rs : List (WaitRecord S)) (v : Word) → Served l (grown S g t rs) v
       → Served l t v × All (λ (r : WaitRecord S). Served l (g (r .second)) (apply (r .operation) v)) rs
   served-parts l g t [] v h = (h, nil)
   served-parts l g t (r ∷ rs) v h = let z = served-parts l g (join t (r .operation) (g (r .second))) rs v h in (z .0 .0, cons (z .0 .1) (z .1))
 
-  pub parts-served : (l : List (Reply S)) (g : ℕ → Tree S) (t : Tree S) {rs : List (WaitRecord S)} (v : Word) → Served l t v
+  parts-served : (l : List (Reply S)) (g : ℕ → Tree S) (t : Tree S) {rs : List (WaitRecord S)} (v : Word) → Served l t v
       → All (λ (r : WaitRecord S). Served l (g (r .second)) (apply (r .operation) v)) rs → Served l (grown S g t rs) v
   parts-served l g t v h nil = h
   parts-served l g t v h (cons {x = r} {xs = rs} k ks) = parts-served l g (join t (r .operation) (g (r .second))) v (h, k) ks
@@ -71,14 +71,14 @@ module _ (S : Setup) where
     module _ (on : place S (z .first) (suc s) ≡ p) (l : List (Reply S)) (v : Word) (h : Served l (treeOf S waits (suc s) (z .first)) v) where
       parts : Served l (treeOf S waits s (z .first)) v × All (λ (r : WaitRecord S). Served l (treeOf S waits s (r .second)) (apply (r .operation) v)) (recordsOf S (z .first) xs ++ (z ∷ recordsOf S (z .first) ys))
       unfolding treeOf
-      parts = rw (records-middle S waits s p xs z ys is) at (rw is at (rw on at (served-parts l (treeOf S waits s) (treeOf S waits s (z .first)) (recordsOf S (z .first) (waits (suc s) (place S (z .first) (suc s)))) v h)))
+      parts = rw (records-middle S xs z ys) at (rw is at (rw on at (served-parts l (treeOf S waits s) (treeOf S waits s (z .first)) (recordsOf S (z .first) (waits (suc s) (place S (z .first) (suc s)))) v h)))
 
       pub gone-second : Served l (treeOf S waits s (z .second)) (apply (z .operation) v)
       gone-second = all-head (all-right (recordsOf S (z .first) xs) (parts .1))
 
       pub gone-first : Served l (treeOf S (update2 waits (suc s) p (xs ++ ys)) (suc s) (z .first)) v
       unfolding treeOf
-      gone-first = rw (on, update2-same, records-append S, fun-ext (λ u. gone-below S waits s p xs z ys is s u (omega arith)))
+      gone-first = rw (on, update2-same, records-append S, fun-ext (λ u. gone-below S waits s p (xs ++ ys) s u (omega arith)))
           (parts-served l (treeOf S waits s) (treeOf S waits s (z .first)) v (parts .0) (all-append (all-left (recordsOf S (z .first) xs) _ (parts .1)) (all-tail (all-right (recordsOf S (z .first) xs) (parts .1)))))
 
   -- the value of a served tree is what the request at its root reads

@@ -12,44 +12,44 @@ use Rattle.lists.specs.Search.{All, nil, cons}
 use Rattle.lists.specs.Count.{count, same}
 use Rattle.lists.proofs.Tests.{by-cases, eqb-cases, ltb-cases}
 use Rattle.lists.proofs.Every.{all-map, all-append}
-use Rattle.lists.proofs.Counts.{same-yes, same-no, count-append}
+use Rattle.lists.proofs.Counts.{same-yes, same-no, count-append, itself}
+use Rattle.lists.proofs.Stacks.{concat, stack-lowest}
 use Rattle.machine.specs.Setup.{Setup, Message}
 use Rattle.machine.specs.State.{tagsBelow, asked, askedBy, unissued, start}
 use Rattle.machine.specs.Single.{runSingly}
 use Rattle.machine.specs.Lawful.{Lawful}
-use Rattle.machine.proofs.Lists.{concat, stack-lowest, itself}
 use Rattle.machine.proofs.Tags.{messageTag}
 use Rattle.machine.proofs.Tree.{treeOf}
 use Rattle.machine.proofs.Invariant.{Invariant, kept, kept-append, kept-none, segment}
 use Rattle.machine.proofs.Places.{atEnd, atRequest, remaining, remaining-request, remaining-end, left, Held}
 use Rattle.machine.proofs.Progress.{Live}
 
+-- ---- the tags of a trace
+tags-above : (n u : ℕ) → n ≤ u → count itself u (tagsBelow n) ≡ 0
+unfolding tagsBelow
+tags-above zero u l = refl
+tags-above (suc n) u l = let m : n ≢ u = (λ e. omega arith) in rw count-append (omega (arith, tags-above n u (omega arith), same-no m))
+
+tags-below : (n u : ℕ) → u < n → count itself u (tagsBelow n) ≡ 1
+unfolding tagsBelow
+tags-below zero u l = absurd (omega arith)
+tags-below (suc n) u l = by-cases (ℕ-discrete n u)
+    (λ (e : n ≡ u). rw (count-append, e) (omega (arith, tags-above u u (omega arith), same-yes u)))
+    (λ (m : n ≢ u). rw count-append (omega (arith, tags-below n u (omega arith), same-no m)))
+
+pub tags-once : (n u : ℕ) → count itself u (tagsBelow n) ≤ 1
+tags-once n u = by-cases (decLt u n) (λ (l : u < n). omega (arith, tags-below n u l)) (λ (l : ¬ (u < n)). omega (arith, tags-above n u (omega arith)))
+
+pub tags-inside : (n u : ℕ) → 1 ≤ count itself u (tagsBelow n) → u < n
+tags-inside n u h = by-cases (decLt u n) (λ (l : u < n). l) (λ (l : ¬ (u < n)). absurd (omega (arith, tags-above n u (omega arith))))
+
+pub tags-length : (n : ℕ) → length (tagsBelow n) ≡ n
+unfolding tagsBelow
+tags-length zero = refl
+tags-length (suc n) = rw (length-append, tags-length n) (omega arith)
+
 module _ (S : Setup) where
   open Setup S using (k, R, engineOf, addressOf, position)
-
-  -- ---- the tags of a trace
-  pub tags-above : (n u : ℕ) → n ≤ u → count itself u (tagsBelow S n) ≡ 0
-  unfolding tagsBelow
-  tags-above zero u l = refl
-  tags-above (suc n) u l = let m : n ≢ u = (λ e. omega arith) in rw count-append (omega (arith, tags-above n u (omega arith), same-no m))
-
-  pub tags-below : (n u : ℕ) → u < n → count itself u (tagsBelow S n) ≡ 1
-  unfolding tagsBelow
-  tags-below zero u l = absurd (omega arith)
-  tags-below (suc n) u l = by-cases (ℕ-discrete n u)
-      (λ (e : n ≡ u). rw (count-append, e) (omega (arith, tags-above u u (omega arith), same-yes u)))
-      (λ (m : n ≢ u). rw count-append (omega (arith, tags-below n u (omega arith), same-no m)))
-
-  pub tags-once : (n u : ℕ) → count itself u (tagsBelow S n) ≤ 1
-  tags-once n u = by-cases (decLt u n) (λ (l : u < n). omega (arith, tags-below n u l)) (λ (l : ¬ (u < n)). omega (arith, tags-above n u (omega arith)))
-
-  pub tags-inside : (n u : ℕ) → 1 ≤ count itself u (tagsBelow S n) → u < n
-  tags-inside n u h = by-cases (decLt u n) (λ (l : u < n). l) (λ (l : ¬ (u < n)). absurd (omega (arith, tags-above n u (omega arith))))
-
-  pub tags-length : (n : ℕ) → length (tagsBelow S n) ≡ n
-  unfolding tagsBelow
-  tags-length zero = refl
-  tags-length (suc n) = rw (length-append, tags-length n) (omega arith)
 
   -- ---- the requests of one engine
   asked-count : (e u : ℕ) (ts : List ℕ) → count (messageTag S) u (askedBy S e ts) ≤ count itself u ts
@@ -98,7 +98,7 @@ module _ (S : Setup) where
   place-cases : {G : Type 0} (u : ℕ) → (u < R → startPlaces u ≡ 0 → G) → (R ≤ u → startPlaces u ≡ 3 → G) → G
   place-cases u f g = by-cases (decLt u R) (λ (l : u < R). f l (place-request u l)) (λ (n : ¬ (u < R)). let l : R ≤ u = omega arith in g l (place-none u l))
 
-  tags-placed : (n : ℕ) → n ≤ R → All (λ t. startPlaces t ≡ 0) (tagsBelow S n)
+  tags-placed : (n : ℕ) → n ≤ R → All (λ t. startPlaces t ≡ 0) (tagsBelow n)
   unfolding tagsBelow
   tags-placed zero l = nil
   tags-placed (suc n) l = all-append (tags-placed n (omega arith)) (cons (place-request n l) nil)
@@ -111,14 +111,14 @@ module _ (S : Setup) where
         | zero ↦ λ p. all-map (λ m h. (h .0, (law .place-engine (m .tag) ∙ h .1, tt, (λ x. rw (h .2)), ap (λ (z : Message S). z .address) (h .2)))) (asked-all p (tags-placed R (omega arith)))
         | suc s ↦ λ p. nil
       ];
-      requestedOnce = elim [ zero ↦ λ p u. omega (arith, asked-count p u (tagsBelow S R), tags-once R u) | suc s ↦ λ p u. omega arith ];
+      requestedOnce = elim [ zero ↦ λ p u. omega (arith, asked-count p u (tagsBelow R), tags-once R u) | suc s ↦ λ p u. omega arith ];
       waiting = λ s p. nil;
       waitingOnce = λ s p u. omega arith;
       replying = λ s p. nil;
       replyingOnce = λ s p u. omega arith;
       collected = λ t v e. (let z : _≡_ {A = ℕ} 0 1 = cc in absurd (omega arith));
       memory = λ a. refl;
-      line = λ e a. rw (kept-none S e a {xs = []} nil) (stack-lowest (segment S (start S words) e a) (λ j. kept-none S e a nil) k ∙ asked-kept law e a (tagsBelow S R));
+      line = λ e a. rw (kept-none S e a {xs = []} nil) (stack-lowest (segment S (start S words) e a) (λ j. kept-none S e a nil) k ∙ asked-kept law e a (tagsBelow R));
     }
 
     start-held : Held S startPlaces (start S words)
@@ -126,7 +126,7 @@ module _ (S : Setup) where
     start-held = record {
       spot = λ u. place-cases u (λ _ e. atRequest 0 (omega arith) e) (λ _ e. atEnd e);
       known = λ u n. place-cases u (λ l _. l) (λ _ e. absurd (n e));
-      inRequests = λ u s h. place-cases u (λ l e. let z : s ≡ 0 = omega arith in rw (z, law .place-engine u, asked-own u (tagsBelow S R)) (omega (arith, tags-below R u l))) (λ _ e. absurd (omega arith));
+      inRequests = λ u s h. place-cases u (λ l e. let z : s ≡ 0 = omega arith in rw (z, law .place-engine u, asked-own u (tagsBelow R)) (omega (arith, tags-below R u l))) (λ _ e. absurd (omega arith));
       inWaits = λ u s h. place-cases u (λ _ e. absurd (omega arith)) (λ _ e. absurd (omega arith));
       inReplies = λ u s h. place-cases u (λ _ e. absurd (omega arith)) (λ _ e. absurd (omega arith));
       inAnswers = λ u h l. place-cases u (λ _ e. absurd (omega arith)) (λ m _. absurd (omega arith));
@@ -139,5 +139,5 @@ module _ (S : Setup) where
         let z : remaining S (startPlaces n) ≤ 2 * k + 2 = place-cases n (λ _ e. rw e (omega (arith, remaining-request S 0))) (λ _ e. rw e (omega (arith, remaining-end S))) in
         omega (arith, z, start-left n)
 
-    pub start-live : Live S law words (start S words) (R * (2 * k + 2))
+    pub start-live : Live S words (start S words) (R * (2 * k + 2))
     start-live = record { places = startPlaces; invariant = start-invariant; held = start-held; bound = start-left R }

@@ -9,7 +9,7 @@ use lib.Dec.{eqb, ltb}
 use borrow.Author.Tests.{lt-ltb, le-ltb}
 use Rattle.lists.specs.Choice.{choose, both}
 use Rattle.lists.specs.Search.{Found, absent, found}
-use Rattle.lists.proofs.Tests.{eqb-cases}
+use Rattle.lists.proofs.Tests.{eqb-cases, either, ltb-either}
 use Rattle.event.specs.Event.{Event}
 use Rattle.machine.specs.Setup.{Setup, Message, WaitRecord, Reply, place}
 use Rattle.machine.specs.Arrival.{Arrival, merged, appended, refused, arrive, oldestOf}
@@ -17,7 +17,6 @@ use Rattle.machine.specs.State.{State, start, standsFor}
 use Rattle.machine.specs.Steps.{nodeAt, landed, forwardOldest, forwardStep, serveOldest, moduleStep, answered, returnOldest, returnStep, collectOldest, collectStep, step}
 use Rattle.machine.specs.Run.{runEvents}
 use Rattle.machine.specs.Order.{takes, isMerged, oldestMerges, merges, stepsThat}
-use Rattle.machine.proofs.Lists.{either, ltb-either}
 
 module _ (S : Setup) where
   open Setup S using (k, Q)
@@ -115,22 +114,18 @@ module _ (S : Setup) where
         (λ _. (serve .0, omega (arith, serve .1)))
         (λ _. (omega (arith, others .0), omega (arith, others .1)))))
 
-  -- ---- a list of events
-  pub events-accesses : (es : List Event) (st : State S) → runEvents S es st .accesses ≡ stepsThat S (takes S) es st + st .accesses
+  -- ---- a list of events: what each step that meets a test adds one to counts them
+  events-counted : (counted : State S → ℕ) (test : Event → State S → Bool) → ((st : State S) (e : Event) → counted (step S e st) ≡ choose (test e st) 1 0 + counted st)
+      → (es : List Event) (st : State S) → counted (runEvents S es st) ≡ stepsThat S test es st + counted st
   unfolding runEvents
-  events-accesses [] st = omega arith
-  events-accesses (e ∷ es) st = omega (arith, events-accesses es (step S e st), step-counted st e .0)
-
-  pub events-merges : (es : List Event) (st : State S) → runEvents S es st .merges ≡ stepsThat S (merges S) es st + st .merges
-  unfolding runEvents
-  events-merges [] st = omega arith
-  events-merges (e ∷ es) st = omega (arith, events-merges es (step S e st), step-counted st e .1)
+  events-counted counted test h [] st = omega arith
+  events-counted counted test h (e ∷ es) st = omega (arith, events-counted counted test h es (step S e st), h st e)
 
   -- from the start, where both counts are zero
   pub run-accesses : (words : ℕ → S .Word) (es : List Event) → runEvents S es (start S words) .accesses ≡ stepsThat S (takes S) es (start S words)
   unfolding start
-  run-accesses words es = omega (arith, events-accesses es (start S words))
+  run-accesses words es = omega (arith, events-counted (λ x. x .accesses) (takes S) (λ st e. step-counted st e .0) es (start S words))
 
   pub run-merges : (words : ℕ → S .Word) (es : List Event) → runEvents S es (start S words) .merges ≡ stepsThat S (merges S) es (start S words)
   unfolding start
-  run-merges words es = omega (arith, events-merges es (start S words))
+  run-merges words es = omega (arith, events-counted (λ x. x .merges) (merges S) (λ st e. step-counted st e .1) es (start S words))

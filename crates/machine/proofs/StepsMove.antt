@@ -6,26 +6,17 @@ use mathlib.Core.List.{List, [], _∷_}
 use lib.ListN.{length}
 use lib.Dec.{eqb, leb, ltb}
 use borrow.Author.Tests.{ltb-true}
-use Rattle.lists.specs.Choice.{choose, both}
+use Rattle.lists.specs.Choice.{choose}
 use Rattle.lists.specs.Search.{Found, absent, found}
+use Rattle.lists.proofs.Tests.{ltb-either, both-true}
 use Rattle.event.specs.Event.{Event, levelFits}
 use Rattle.machine.specs.Setup.{Setup, Message, WaitRecord, Reply, place}
 use Rattle.machine.specs.Arrival.{Node, Arrival, merged, appended, refused, arrive, oldestOf}
 use Rattle.machine.specs.State.{State}
 use Rattle.machine.specs.Steps.{nodeAt, sent, landed, forwardOldest, forwardStep, serveOldest, moduleStep, answered, returnOldest, returnStep, collectOldest, collectStep, step}
 use Rattle.machine.specs.Lawful.{Lawful}
-use Rattle.machine.proofs.Lists.{clash, ltb-either}
 use Rattle.machine.proofs.Arrivals.{Arrived, arrive-is, Oldest, oldest-is}
 use Rattle.machine.proofs.Moves.{Move, appending, merging, serving, answering, lowering, collecting}
-
--- both tests hold, so each does
-pub both-first : (b c : Bool) → both b c ≡ true → b ≡ true
-both-first true c h = refl
-both-first false c h = h
-
-pub both-second : (b c : Bool) → both b c ≡ true → c ≡ true
-both-second true c h = h
-both-second false c h = clash h refl
 
 -- the one or the other statement
 abbrev pub ifHolds : Bool → Type 0 → Type 0 → Type 0
@@ -69,7 +60,7 @@ module _ (S : Setup) where
       landed-does m rest is (appended n) h = subst (λ (x : Node S). Does Reason st (sent S st s p rest (place S (m .tag) (suc s)) x (st .merges))) (sym h) (moved (appending s p m rest lt is))
       landed-does m rest is refused h = idle (full (place S (m .tag) (suc s)) h)
 
-      pub forward-does : Does Reason st (forwardStep S s p st)
+      forward-does : Does Reason st (forwardStep S s p st)
       unfolding forwardStep forwardOldest
       forward-does = go (st .requests s p) refl
         where
@@ -78,7 +69,7 @@ module _ (S : Setup) where
           go (m ∷ rest) is = landed-does m rest is (arrive S (nodeAt S st (suc s) (place S (m .tag) (suc s))) m) (arrive-is S law (nodeAt S st (suc s) (place S (m .tag) (suc s))) m)
 
     -- ---- module
-    pub module-does : (p : ℕ) → Does (Stuck (st .requests k p) (λ _. st .replies k p)) st (moduleStep S p st)
+    module-does : (p : ℕ) → Does (Stuck (st .requests k p) (λ _. st .replies k p)) st (moduleStep S p st)
     unfolding moduleStep serveOldest
     module-does p = go (st .requests k p) refl
       where
@@ -97,7 +88,7 @@ module _ (S : Setup) where
       answered-does t rest is (found older r younger) h =
           ltb-either (Does Cause st) (length (st .replies s (place S (r .second) s))) Q (λ _. moved (answering s p t rest older r younger is (h .0) (h .1))) (λ l. idle (full (place S (r .second) s) l))
 
-      pub return-does : Does Cause st (returnStep S s p st)
+      return-does : Does Cause st (returnStep S s p st)
       unfolding returnStep returnOldest
       return-does = go (st .replies (suc s) p) refl
         where
@@ -106,7 +97,7 @@ module _ (S : Setup) where
           go (t ∷ rest) is = answered-does t rest is (oldestOf S (t .tag) (st .waits (suc s) p)) (oldest-is S (t .tag) (st .waits (suc s) p))
 
     -- ---- collect
-    pub collect-does : (e : ℕ) → Does (st .replies 0 e ≡ []) st (collectStep S e st)
+    collect-does : (e : ℕ) → Does (st .replies 0 e ≡ []) st (collectStep S e st)
     unfolding collectStep collectOldest
     collect-does e = go (st .replies 0 e) refl
       where
@@ -123,8 +114,17 @@ module _ (S : Setup) where
     unfolding step levelFits
     step-does law e =
         choose-does (eqb (e .what) 0) (λ _. forward-does law 0 (e .position) (law .levels))
-        (choose-does (eqb (e .what) 1) (λ h. forward-does law (e .level) (e .position) (ltb-true (e .level) k (both-second (leb 1 (e .level)) (ltb (e .level) k) h)))
+        (choose-does (eqb (e .what) 1) (λ h. forward-does law (e .level) (e .position) (ltb-true (e .level) k (both-true (leb 1 (e .level)) (ltb (e .level) k) h .1)))
         (choose-does (eqb (e .what) 2) (λ _. module-does (e .position))
         (choose-does (eqb (e .what) 3) (λ _. return-does (e .level - 1) (e .position))
         (choose-does (eqb (e .what) 4) (λ _. collect-does (e .position))
         (λ _. idle tt)))))
+
+  -- what every move keeps every step keeps
+  pub step-keeps : Lawful S → (P : State S → Type 0) → ((a b : State S) → Move S a b → P a → P b)
+      → (e : Event) → levelFits k (e .what) (e .level) ≡ true → (st : State S) → P st → P (step S e st)
+  step-keeps law P f e fits st h = go (step S e st) (step-does st law e fits)
+    where
+      go : (st′ : State S) → Does (Why e st) st st′ → P st′
+      go st′ (idle w) = h
+      go st′ (moved m) = f st st′ m h

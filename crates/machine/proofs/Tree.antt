@@ -1,5 +1,5 @@
 -- The requests that a message stands for as a tree: who was merged into whom, with the operation stored for it.
-use Prim.Native.Nat.{ℕ, zero, suc, _+_, _≤_}
+use Prim.Native.Nat.{ℕ, zero, suc, _≤_}
 use mathlib.Core.Path.{_≡_, refl, sym, _∙_, fun-ext}
 use mathlib.Core.Logic.{_≢_}
 use mathlib.Core.List.{List, [], _∷_, _++_, append-assoc, append-nil}
@@ -14,7 +14,7 @@ use Rattle.machine.specs.State.{standsFor, seconds}
 use Rattle.machine.proofs.Records.{records-append, records-all, records-none, records-own, records-other}
 
 module _ (S : Setup) where
-  open Setup S using (Word, Operation, apply, engineOf, addressOf, operationOf, position)
+  open Setup S using (Operation)
 
   -- the wait buffers, by level and position
   abbrev pub Waits : Type 0
@@ -55,7 +55,7 @@ module _ (S : Setup) where
   grown-eq g h l (cons {x = r} {xs = rs} e es) = rw e (grown-eq g h (join l (r .operation) (h (r .second))) es)
 
   -- AGREE: records with the first tag x change no other tree, where x is nobody's second tag
-  pub agree : (x : ℕ) (waits waits′ : Waits) → ((s p u : ℕ) → u ≢ x → recordsOf S u (waits′ s p) ≡ recordsOf S u (waits s p))
+  agree : (x : ℕ) (waits waits′ : Waits) → ((s p u : ℕ) → u ≢ x → recordsOf S u (waits′ s p) ≡ recordsOf S u (waits s p))
       → ((s p : ℕ) → All (λ (r : WaitRecord S). r .second ≢ x) (waits s p)) → (s u : ℕ) → u ≢ x → treeOf waits′ s u ≡ treeOf waits s u
   unfolding treeOf
   agree x waits waits′ same free zero u n = refl
@@ -63,7 +63,7 @@ module _ (S : Setup) where
       (grown-eq (treeOf waits′ s) (treeOf waits s) (treeOf waits s u) (all-map (λ r h. agree x waits waits′ same free s (r .second) (h .0)) (records-all S u (free (suc s) (place S u (suc s))))))
 
   -- a tree up to level s looks at the buffers up to level s only
-  pub below : (waits waits′ : Waits) (j : ℕ) → ((s p : ℕ) → s ≤ j → waits′ s p ≡ waits s p) → (s u : ℕ) → s ≤ j → treeOf waits′ s u ≡ treeOf waits s u
+  below : (waits waits′ : Waits) (j : ℕ) → ((s p : ℕ) → s ≤ j → waits′ s p ≡ waits s p) → (s u : ℕ) → s ≤ j → treeOf waits′ s u ≡ treeOf waits s u
   unfolding treeOf
   below waits waits′ j same zero u h = refl
   below waits waits′ j same (suc s) u h = rw (same (suc s) (place S u (suc s)) h, fun-ext (λ v. below waits waits′ j same s v (omega arith)))
@@ -86,13 +86,15 @@ module _ (S : Setup) where
       (records-append S u (waits s p) (r ∷ []) ∙ rw (records-other S u r [] n, records-none S u nil) (append-nil (recordsOf S u (waits s p)))) (λ _ _ _. refl) j q) free
 
   -- ---- a record that goes: z, of the first tag z .first
+  pub records-middle : (xs : List (WaitRecord S)) (z : WaitRecord S) (ys : List (WaitRecord S))
+      → recordsOf S (z .first) (xs ++ (z ∷ ys)) ≡ recordsOf S (z .first) xs ++ (z ∷ recordsOf S (z .first) ys)
+  records-middle xs z ys = rw (records-append S (z .first) xs (z ∷ ys), records-own S z ys)
+
+  -- whatever stands there then, a tree below does not change
+  pub gone-below : (waits : Waits) (s p : ℕ) (l : List (WaitRecord S)) (j u : ℕ) → j ≤ s → treeOf (update2 waits (suc s) p l) j u ≡ treeOf waits j u
+  gone-below waits s p l j u h = below waits (update2 waits (suc s) p l) s (λ i q k. update2-level waits (suc s) p _ i q (omega arith)) j u h
+
   module _ (waits : Waits) (s p : ℕ) (xs : List (WaitRecord S)) (z : WaitRecord S) (ys : List (WaitRecord S)) (is : waits (suc s) p ≡ xs ++ (z ∷ ys)) where
-    pub records-middle : recordsOf S (z .first) (xs ++ (z ∷ ys)) ≡ recordsOf S (z .first) xs ++ (z ∷ recordsOf S (z .first) ys)
-    records-middle = rw (records-append S (z .first) xs (z ∷ ys), records-own S z ys)
-
-    pub gone-below : (j u : ℕ) → j ≤ s → treeOf (update2 waits (suc s) p (xs ++ ys)) j u ≡ treeOf waits j u
-    gone-below j u h = below waits (update2 waits (suc s) p (xs ++ ys)) s (λ i q k. update2-level waits (suc s) p _ i q (omega arith)) j u h
-
     pub gone-other : ((j q : ℕ) → All (λ (r : WaitRecord S). r .second ≢ z .first) (waits j q)) → (j u : ℕ) → u ≢ z .first → treeOf (update2 waits (suc s) p (xs ++ ys)) j u ≡ treeOf waits j u
     gone-other free = agree (z .first) waits (update2 waits (suc s) p (xs ++ ys)) (λ j q u n. update2-ind waits (suc s) p (xs ++ ys) (λ j q l. recordsOf S u l ≡ recordsOf S u (waits j q))
         (rw (is, records-append S, records-append S u xs (z ∷ ys), records-other S u z ys n)) (λ _ _ _. refl) j q) free

@@ -3,7 +3,7 @@ use Prim.Native.Nat.{ℕ, suc, _+_, _*_, _≤_, _<_}
 use mathlib.Core.Path.{_≡_}
 use mathlib.Core.Logic.{_≢_}
 use mathlib.Core.Bool.{Bool, true, false}
-use mathlib.Core.List.{List, [], _∷_, List·Memᴰ}
+use mathlib.Core.List.{List, [], _∷_, _++_, List·Memᴰ}
 use mathlib.Core.Option.{none, some}
 use lib.ListN.{length}
 use lib.Dec.{eqb, ltb}
@@ -23,26 +23,34 @@ abbrev pub Named : ℕ → Act → Type 0
 Named k (event e) = levelFits k (e .what) (e .level) ≡ true
 Named k (drain n) = Unit {0}
 
+-- where a request stands: in the request queue of a level and position (at level 0: unissued), second in a wait record there,
+-- in the reply queue there, or collected
+pub data Where : Type 0 where
+  requested : ℕ → ℕ → Where
+  waiting : ℕ → ℕ → Where
+  replying : ℕ → ℕ → Where
+  answered : Where
+
 module _ (S : Setup) where
-  open Setup S using (Word, k, N, R, engineOf, addressOf)
+  open Setup S using (Word, k, R, engineOf, addressOf)
 
   -- ---- at one moment
-  module _ (words : ℕ → Word) (st : State S) where
-    abbrev pub Unissued : ℕ → Type 0
-    Unissued t = 0 < count (λ (m : Message S). m .tag) t (st .requests 0 (engineOf t))
+  -- the requests of engine e to word a, of a list
+  abbrev pub ofEngineTo : ℕ → ℕ → List ℕ → List ℕ
+  ofEngineTo e a = only (λ t. both (eqb (engineOf t) e) (eqb (addressOf t) a))
 
+  abbrev pub Unissued : State S → ℕ → Type 0
+  Unissued st t = 0 < count (λ (m : Message S). m .tag) t (st .requests 0 (engineOf t))
+
+  module _ (words : ℕ → Word) (st : State S) where
     -- run singly in the order of the list from the starting words, the request t reads v
     abbrev pub Reads : ℕ → Word → Type 0
     Reads t v = List·Memᴰ (record { tag = t; value = v }) (reads S (st .order) words)
 
-    -- the requests of engine e to word a, of a list
-    abbrev pub ofEngineTo : ℕ → ℕ → List ℕ → List ℕ
-    ofEngineTo e a = only (λ t. both (eqb (engineOf t) e) (eqb (addressOf t) a))
-
     pub record Ordered : Type 0 where
       -- "there is an order list of distinct requests", of the trace and issued
       pub distinct : Distinct (λ t. t) (st .order)
-      pub issued : All (λ t. (t < R) × ¬ Unissued t) (st .order)
+      pub issued : All (λ t. (t < R) × ¬ Unissued st t) (st .order)
       -- "run singly in that order from the starting words they give the memory as it is"
       pub memory : (a : ℕ) → runSingly S (st .order) words a ≡ st .words a
       -- "and every reply collected so far"
@@ -50,7 +58,7 @@ module _ (S : Setup) where
       -- and the value of every reply still under way
       pub underWay : (s p : ℕ) → All (λ (r : Reply S). Reads (r .tag) (r .value)) (st .replies s p)
       -- "one engine's requests to one word stand as issued": a beginning of all that it has
-      pub asIssued : (e a : ℕ) → Begins (ofEngineTo e a (st .order)) (ofEngineTo e a (tagsBelow S R))
+      pub asIssued : (e a : ℕ) → Begins (ofEngineTo e a (st .order)) (ofEngineTo e a (tagsBelow R))
       -- "none is collected twice": what is about to be collected has no answer yet
       pub once : (e : ℕ) (r : Reply S) (rest : List (Reply S)) → st .replies 0 e ≡ r ∷ rest → st .answers (r .tag) ≡ none
       -- where none is unanswered the list holds every request
@@ -62,18 +70,9 @@ module _ (S : Setup) where
     pub grows : Begins (earlier .order) (later .order)
     pub stays : (t : ℕ) (v : Word) → earlier .answers t ≡ some v → later .answers t ≡ some v
     -- "of two in the list, one collected before the other was issued stands first"
-    pub realTime : (t u : ℕ) (v : Word) → earlier .answers t ≡ some v → 0 < count (λ (m : Message S). m .tag) u (earlier .requests 0 (engineOf u))
-        → List·Memᴰ u (later .order) → Before t u (later .order)
+    pub realTime : (t u : ℕ) (v : Word) → earlier .answers t ≡ some v → Unissued earlier u → List·Memᴰ u (later .order) → Before t u (later .order)
 
   -- ---- where a request stands
-  -- in the request queue of a level and position (at level 0: unissued), second in a wait record there, in the reply queue
-  -- there, or collected
-  pub data Where : Type 0 where
-    requested : ℕ → ℕ → Where
-    waiting : ℕ → ℕ → Where
-    replying : ℕ → ℕ → Where
-    answered : Where
-
   -- how often the request t stands there
   abbrev pub times : State S → ℕ → Where → ℕ
   times st t (requested s p) = count (λ (m : Message S). m .tag) t (st .requests s p)
@@ -134,6 +133,11 @@ module _ (S : Setup) where
     pub rounds : runActs S acts (atStart words) .rounds ≤ R * (2 * k + 2)
     -- "a drain allowed R(2k + 2) rounds leaves none unanswered, whichever events came before"
     pub drained : (n : ℕ) → R * (2 * k + 2) ≤ n → allAnswered S (drainRun S n (runActs S acts (atStart words)) .state) ≡ true
+    -- so does one among the acts, whatever comes behind it: at every moment from its end on
+    pub drainedFrom : (n : ℕ) → R * (2 * k + 2) ≤ n → (before after : List Act) → acts ≡ before ++ (drain n ∷ after)
+        → All (λ st. allAnswered S st ≡ true) (moments S after (drainRun S n (runActs S before (atStart words)) .state))
+    -- and so after the whole run
+    pub drainedWithin : (n : ℕ) → R * (2 * k + 2) ≤ n → List·Memᴰ (drain n) acts → allAnswered S (runActs S acts (atStart words) .state) ≡ true
     -- "module accesses (module steps that took a message), merges"
     pub accesses : runActs S acts (atStart words) .state .accesses ≡ stepsThat takes (eventsOf S acts (start S words)) (start S words)
     pub mergings : runActs S acts (atStart words) .state .merges ≡ stepsThat merges (eventsOf S acts (start S words)) (start S words)

@@ -7,8 +7,13 @@ use Rattle.lists.specs.Choice.{choose}
 use Rattle.machine.specs.Setup.{Setup, Message, WaitRecord, Reply, place}
 use Rattle.machine.specs.Arrival.{recordsOf}
 
+-- the tags below n, ascending
+unfoldable pub tagsBelow : ℕ → List ℕ
+tagsBelow zero = []
+tagsBelow (suc n) = tagsBelow n ++ (n ∷ [])
+
 module _ (S : Setup) where
-  open Setup S using (Word, k, R, engineOf, addressOf, operationOf)
+  open Setup S using (Word, R, engineOf, addressOf, operationOf)
 
   -- Queues and buffers are by level and position, oldest first. The requests at level 0, position e, are those that
   -- engine e has not issued, in trace order: an issue is then a forward from level 0.
@@ -22,11 +27,45 @@ module _ (S : Setup) where
     pub accesses : ℕ
     pub merges : ℕ
 
-  -- the tags below n, ascending
-  unfoldable pub tagsBelow : ℕ → List ℕ
-  tagsBelow zero = []
-  tagsBelow (suc n) = tagsBelow n ++ (n ∷ [])
+  -- ---- a state by its parts, and a state with one part replaced: a step then says only what it changes
+  abbrev pub stateOf : (ℕ → ℕ → List (Message S)) → (ℕ → ℕ → List (WaitRecord S)) → (ℕ → ℕ → List (Reply S)) → (ℕ → Word)
+      → List ℕ → (ℕ → Option Word) → ℕ → ℕ → State
+  stateOf requests waits replies words order answers accesses merges = record {
+    requests = requests;
+    waits = waits;
+    replies = replies;
+    words = words;
+    order = order;
+    answers = answers;
+    accesses = accesses;
+    merges = merges;
+  }
 
+  abbrev pub withRequests : (ℕ → ℕ → List (Message S)) → State → State
+  withRequests requests st = stateOf requests (st .waits) (st .replies) (st .words) (st .order) (st .answers) (st .accesses) (st .merges)
+
+  abbrev pub withWaits : (ℕ → ℕ → List (WaitRecord S)) → State → State
+  withWaits waits st = stateOf (st .requests) waits (st .replies) (st .words) (st .order) (st .answers) (st .accesses) (st .merges)
+
+  abbrev pub withReplies : (ℕ → ℕ → List (Reply S)) → State → State
+  withReplies replies st = stateOf (st .requests) (st .waits) replies (st .words) (st .order) (st .answers) (st .accesses) (st .merges)
+
+  abbrev pub withWords : (ℕ → Word) → State → State
+  withWords words st = stateOf (st .requests) (st .waits) (st .replies) words (st .order) (st .answers) (st .accesses) (st .merges)
+
+  abbrev pub withOrder : List ℕ → State → State
+  withOrder order st = stateOf (st .requests) (st .waits) (st .replies) (st .words) order (st .answers) (st .accesses) (st .merges)
+
+  abbrev pub withAnswers : (ℕ → Option Word) → State → State
+  withAnswers answers st = stateOf (st .requests) (st .waits) (st .replies) (st .words) (st .order) answers (st .accesses) (st .merges)
+
+  abbrev pub withAccesses : ℕ → State → State
+  withAccesses accesses st = stateOf (st .requests) (st .waits) (st .replies) (st .words) (st .order) (st .answers) accesses (st .merges)
+
+  abbrev pub withMerges : ℕ → State → State
+  withMerges merges st = stateOf (st .requests) (st .waits) (st .replies) (st .words) (st .order) (st .answers) (st .accesses) merges
+
+  -- ---- the state at the start
   -- the request t as it is issued
   abbrev pub asked : ℕ → Message S
   asked t = record { tag = t; address = addressOf t; operation = operationOf t }
@@ -53,6 +92,7 @@ module _ (S : Setup) where
     merges = 0;
   }
 
+  -- ---- the requests that a message stands for
   -- "of each second tag recorded for t at level s, oldest record first"
   abbrev pub seconds : (ℕ → List ℕ) → List (WaitRecord S) → List ℕ
   seconds upTo [] = []

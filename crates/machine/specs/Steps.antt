@@ -10,24 +10,18 @@ use Rattle.lists.specs.Search.{Found, absent, found}
 use Rattle.event.specs.Event.{Event}
 use Rattle.machine.specs.Setup.{Setup, Message, WaitRecord, Reply, place}
 use Rattle.machine.specs.Arrival.{Node, Arrival, merged, appended, refused, arrive, oldestOf}
-use Rattle.machine.specs.State.{State, standsFor}
+use Rattle.machine.specs.State.{State, standsFor, withRequests, withWaits, withReplies, withWords, withOrder, withAnswers, withAccesses, withMerges}
 
 module _ (S : Setup) where
-  open Setup S using (Word, apply, k, Q)
+  open Setup S using (apply, k, Q)
 
   -- ---- issue (from level 0) and forward
   -- the oldest message of level s, position p, has left it, and the node at level s + 1, position p′, is n
   abbrev pub sent : State S → ℕ → ℕ → List (Message S) → ℕ → Node S → ℕ → State S
-  sent st s p rest p′ n merges = record {
-    requests = update2 (update2 (st .requests) s p rest) (suc s) p′ (n .queue);
-    waits = update2 (st .waits) (suc s) p′ (n .waiting);
-    replies = st .replies;
-    words = st .words;
-    order = st .order;
-    answers = st .answers;
-    accesses = st .accesses;
-    merges = merges;
-  }
+  sent st s p rest p′ n merges =
+      withRequests S (update2 (update2 (st .requests) s p rest) (suc s) p′ (n .queue))
+      (withWaits S (update2 (st .waits) (suc s) p′ (n .waiting))
+      (withMerges S merges st))
 
   unfoldable pub landed : State S → ℕ → ℕ → List (Message S) → ℕ → Arrival S → State S
   landed st s p rest p′ (merged n) = sent st s p rest p′ n (suc (st .merges))
@@ -54,16 +48,12 @@ module _ (S : Setup) where
   -- "take the oldest message, put (tag, old value) at the end of the reply queue here, store f(old)"; "At each module step the
   -- order list grows by all requests the message stands for"
   abbrev pub taken : State S → ℕ → Message S → List (Message S) → State S
-  taken st p m rest = record {
-    requests = update2 (st .requests) k p rest;
-    waits = st .waits;
-    replies = update2 (st .replies) k p (st .replies k p ++ (record { tag = m .tag; value = st .words (m .address) } ∷ []));
-    words = update (st .words) (m .address) (apply (m .operation) (st .words (m .address)));
-    order = st .order ++ standsFor S (st .waits) k (m .tag);
-    answers = st .answers;
-    accesses = suc (st .accesses);
-    merges = st .merges;
-  }
+  taken st p m rest =
+      withRequests S (update2 (st .requests) k p rest)
+      (withReplies S (update2 (st .replies) k p (st .replies k p ++ (record { tag = m .tag; value = st .words (m .address) } ∷ [])))
+      (withWords S (update (st .words) (m .address) (apply (m .operation) (st .words (m .address))))
+      (withOrder S (st .order ++ standsFor S (st .waits) k (m .tag))
+      (withAccesses S (suc (st .accesses)) st))))
 
   -- "Nothing happens if the reply queue is full"
   unfoldable pub serveOldest : State S → ℕ → List (Message S) → State S
@@ -77,29 +67,13 @@ module _ (S : Setup) where
   -- "its second tag is answered with its stored operation applied to v, one level down on that tag's own path. The record
   -- goes, t stays."
   abbrev pub split : State S → ℕ → ℕ → Reply S → List (WaitRecord S) → WaitRecord S → ℕ → State S
-  split st s p t others r p′ = record {
-    requests = st .requests;
-    waits = update2 (st .waits) (suc s) p others;
-    replies = update2 (st .replies) s p′ (st .replies s p′ ++ (record { tag = r .second; value = apply (r .operation) (t .value) } ∷ []));
-    words = st .words;
-    order = st .order;
-    answers = st .answers;
-    accesses = st .accesses;
-    merges = st .merges;
-  }
+  split st s p t others r p′ =
+      withWaits S (update2 (st .waits) (suc s) p others)
+      (withReplies S (update2 (st .replies) s p′ (st .replies s p′ ++ (record { tag = r .second; value = apply (r .operation) (t .value) } ∷ []))) st)
 
   -- "If there is none, t itself moves one level down"
   abbrev pub lowered : State S → ℕ → ℕ → Reply S → List (Reply S) → ℕ → State S
-  lowered st s p t rest p′ = record {
-    requests = st .requests;
-    waits = st .waits;
-    replies = update2 (update2 (st .replies) (suc s) p rest) s p′ (st .replies s p′ ++ (t ∷ []));
-    words = st .words;
-    order = st .order;
-    answers = st .answers;
-    accesses = st .accesses;
-    merges = st .merges;
-  }
+  lowered st s p t rest p′ = withReplies S (update2 (update2 (st .replies) (suc s) p rest) s p′ (st .replies s p′ ++ (t ∷ []))) st
 
   -- "If the target queue is full nothing changes"
   abbrev pub ifRoom : State S → ℕ → ℕ → State S → State S
@@ -121,16 +95,9 @@ module _ (S : Setup) where
   -- "the oldest reply there becomes the answer of its request"
   unfoldable pub collectOldest : State S → ℕ → List (Reply S) → State S
   collectOldest st e [] = st
-  collectOldest st e (t ∷ rest) = record {
-    requests = st .requests;
-    waits = st .waits;
-    replies = update2 (st .replies) 0 e rest;
-    words = st .words;
-    order = st .order;
-    answers = update (st .answers) (t .tag) (some (t .value));
-    accesses = st .accesses;
-    merges = st .merges;
-  }
+  collectOldest st e (t ∷ rest) =
+      withReplies S (update2 (st .replies) 0 e rest)
+      (withAnswers S (update (st .answers) (t .tag) (some (t .value))) st)
 
   unfoldable pub collectStep : ℕ → State S → State S
   collectStep e st = collectOldest st e (st .replies 0 e)

@@ -30,71 +30,70 @@ two f l p l′ p′ h =
     (λ (e : l ≡ l′). by-cases (ℕ-discrete p p′) (λ (d : p ≡ p′). yes (rw (e, d))) (λ (n : p ≢ p′). no (λ z. n (h z .1))))
     (λ (n : l ≢ l′). no (λ z. n (h z .0)))
 
-module _ {S : Setup} where
-  abbrev pub kindOf : Where S → ℕ
-  kindOf (requested s p) = 0
-  kindOf (waiting s p) = 1
-  kindOf (replying s p) = 2
-  kindOf answered = 3
+abbrev pub kindOf : Where → ℕ
+kindOf (requested s p) = 0
+kindOf (waiting s p) = 1
+kindOf (replying s p) = 2
+kindOf answered = 3
 
-  -- places of two kinds differ
-  pub other-kind : (a b : Where S) → kindOf a ≢ kindOf b → a ≢ b
-  other-kind a b n e = n (ap kindOf e)
+-- places of two kinds differ
+pub other-kind : (a b : Where) → kindOf a ≢ kindOf b → a ≢ b
+other-kind a b n e = n (ap kindOf e)
 
-  pub where-discrete : (a b : Where S) → Dec (a ≡ b)
-  where-discrete (requested l p) (requested l′ p′) = two requested l p l′ p′ (λ z. (cc, cc))
-  where-discrete (requested l p) (waiting l′ p′) = no (other-kind _ _ (λ e. omega arith))
-  where-discrete (requested l p) (replying l′ p′) = no (other-kind _ _ (λ e. omega arith))
-  where-discrete (requested l p) answered = no (other-kind _ _ (λ e. omega arith))
-  where-discrete (waiting l p) (requested l′ p′) = no (other-kind _ _ (λ e. omega arith))
-  where-discrete (waiting l p) (waiting l′ p′) = two waiting l p l′ p′ (λ z. (cc, cc))
-  where-discrete (waiting l p) (replying l′ p′) = no (other-kind _ _ (λ e. omega arith))
-  where-discrete (waiting l p) answered = no (other-kind _ _ (λ e. omega arith))
-  where-discrete (replying l p) (requested l′ p′) = no (other-kind _ _ (λ e. omega arith))
-  where-discrete (replying l p) (waiting l′ p′) = no (other-kind _ _ (λ e. omega arith))
-  where-discrete (replying l p) (replying l′ p′) = two replying l p l′ p′ (λ z. (cc, cc))
-  where-discrete (replying l p) answered = no (other-kind _ _ (λ e. omega arith))
-  where-discrete answered (requested l′ p′) = no (other-kind _ _ (λ e. omega arith))
-  where-discrete answered (waiting l′ p′) = no (other-kind _ _ (λ e. omega arith))
-  where-discrete answered (replying l′ p′) = no (other-kind _ _ (λ e. omega arith))
-  where-discrete answered answered = yes refl
+pub where-discrete : (a b : Where) → Dec (a ≡ b)
+where-discrete (requested l p) (requested l′ p′) = two requested l p l′ p′ (λ z. (cc, cc))
+where-discrete (requested l p) (waiting l′ p′) = no (other-kind _ _ (λ e. omega arith))
+where-discrete (requested l p) (replying l′ p′) = no (other-kind _ _ (λ e. omega arith))
+where-discrete (requested l p) answered = no (other-kind _ _ (λ e. omega arith))
+where-discrete (waiting l p) (requested l′ p′) = no (other-kind _ _ (λ e. omega arith))
+where-discrete (waiting l p) (waiting l′ p′) = two waiting l p l′ p′ (λ z. (cc, cc))
+where-discrete (waiting l p) (replying l′ p′) = no (other-kind _ _ (λ e. omega arith))
+where-discrete (waiting l p) answered = no (other-kind _ _ (λ e. omega arith))
+where-discrete (replying l p) (requested l′ p′) = no (other-kind _ _ (λ e. omega arith))
+where-discrete (replying l p) (waiting l′ p′) = no (other-kind _ _ (λ e. omega arith))
+where-discrete (replying l p) (replying l′ p′) = two replying l p l′ p′ (λ z. (cc, cc))
+where-discrete (replying l p) answered = no (other-kind _ _ (λ e. omega arith))
+where-discrete answered (requested l′ p′) = no (other-kind _ _ (λ e. omega arith))
+where-discrete answered (waiting l′ p′) = no (other-kind _ _ (λ e. omega arith))
+where-discrete answered (replying l′ p′) = no (other-kind _ _ (λ e. omega arith))
+where-discrete answered answered = yes refl
 
-  -- and so do two of one kind, at two levels or two positions
-  pub request-elsewhere : (s p s′ p′ : ℕ) → ¬ ((s ≡ s′) × (p ≡ p′)) → _≢_ {A = Where S} (requested s p) (requested s′ p′)
-  request-elsewhere s p s′ p′ n e = n (cc, cc)
+-- and so do two of one kind, at two levels or two positions
+pub request-elsewhere : (s p s′ p′ : ℕ) → ¬ ((s ≡ s′) × (p ≡ p′)) → requested s p ≢ requested s′ p′
+request-elsewhere s p s′ p′ n e = n (cc, cc)
 
-  pub wait-elsewhere : (s p s′ p′ : ℕ) → ¬ ((s ≡ s′) × (p ≡ p′)) → _≢_ {A = Where S} (waiting s p) (waiting s′ p′)
-  wait-elsewhere s p s′ p′ n e = n (cc, cc)
+pub wait-elsewhere : (s p s′ p′ : ℕ) → ¬ ((s ≡ s′) × (p ≡ p′)) → waiting s p ≢ waiting s′ p′
+wait-elsewhere s p s′ p′ n e = n (cc, cc)
 
 -- ---- one place for each tag, of any state
 module _ (S : Setup) (st : State S) (P : OnePlace S st) where
-  abbrev at : ℕ → Where S → ℕ
+  abbrev at : ℕ → Where → ℕ
   at t w = times S st t w
 
-  place-below : (t : ℕ) (w : Where S) → 0 < at t w → t < S .R
+  place-below : (t : ℕ) (w : Where) → 0 < at t w → t < S .R
   place-below t w h = by-cases (decLt t (S .R)) (λ (l : t < S .R). l) (λ (n : ¬ (t < S .R)). absurd (omega (arith, P .nowhere t (omega arith) w)))
 
   -- whoever stands at w is a request whose one place is w
-  place-is : (t : ℕ) (w : Where S) (h : 0 < at t w) → w ≡ P .somewhere t (place-below t w h) .0
+  place-is : (t : ℕ) (w : Where) (h : 0 < at t w) → w ≡ P .somewhere t (place-below t w h) .0
   place-is t w h =
       let z = P .somewhere t (place-below t w h) in
       by-cases (where-discrete w (z .0)) (λ (e : w ≡ z .0). e) (λ (n : w ≢ z .0). absurd (omega (arith, z .3 w n)))
 
-  place-once : (t : ℕ) (w : Where S) → at t w ≤ 1
+  place-once : (t : ℕ) (w : Where) → at t w ≤ 1
   place-once t w = by-cases (decLt 0 (at t w))
       (λ (h : 0 < at t w). let one : at t w ≡ 1 = subst (λ v. at t v ≡ 1) (sym (place-is t w h)) (P .somewhere t (place-below t w h) .1) in omega arith)
       (λ (n : ¬ (0 < at t w)). omega arith)
 
-  place-path : (t : ℕ) (w : Where S) → 0 < at t w → OnPath S t w
+  place-path : (t : ℕ) (w : Where) → 0 < at t w → OnPath S t w
   place-path t w h = subst (λ v. OnPath S t v) (sym (place-is t w h)) (P .somewhere t (place-below t w h) .2)
 
-  place-alone : (t : ℕ) (w w′ : Where S) → 0 < at t w → w′ ≢ w → at t w′ ≡ 0
+  place-alone : (t : ℕ) (w w′ : Where) → 0 < at t w → w′ ≢ w → at t w′ ≡ 0
   place-alone t w w′ h n = P .somewhere t (place-below t w h) .3 w′ (λ e. n (e ∙ sym (place-is t w h)))
 
 -- ---- of a view
 module _ (x : Network) where
   -- how often the tag t stands there, in a wait record as the second
-  abbrev pub tagTimes : View → ℕ → Where (setup x) → ℕ
+  abbrev pub tagTimes : View → ℕ → Where → ℕ
   tagTimes v t (requested s p) = count (λ (u : ℕ). u) t (tagsAt x v s p)
   tagTimes v t (waiting s p) = count (λ (r : Pair). r .second) t (v .waits s p)
   tagTimes v t (replying s p) = count (λ (u : ℕ). u) t (v .replies s p)
@@ -102,12 +101,12 @@ module _ (x : Network) where
 
   -- each tag stands in one place at most, and there once; it is a request's, and the place is on its path
   pub record Apart (v : View) : Type 0 where
-    pub once : (t : ℕ) (w : Where (setup x)) → tagTimes v t w ≤ 1
-    pub elsewhere : (t : ℕ) (w w′ : Where (setup x)) → 0 < tagTimes v t w → w′ ≢ w → tagTimes v t w′ ≡ 0
-    pub below : (t : ℕ) (w : Where (setup x)) → 0 < tagTimes v t w → t < x .R
-    pub path : (t : ℕ) (w : Where (setup x)) → 0 < tagTimes v t w → OnPath (setup x) t w
+    pub once : (t : ℕ) (w : Where) → tagTimes v t w ≤ 1
+    pub elsewhere : (t : ℕ) (w w′ : Where) → 0 < tagTimes v t w → w′ ≢ w → tagTimes v t w′ ≡ 0
+    pub below : (t : ℕ) (w : Where) → 0 < tagTimes v t w → t < x .R
+    pub path : (t : ℕ) (w : Where) → 0 < tagTimes v t w → OnPath (setup x) t w
 
-  times-shown : (v : View) (words : ℕ → ℕ) (t : ℕ) (w : Where (setup x)) → times (setup x) (shown x v words) t w ≡ tagTimes v t w
+  times-shown : (v : View) (words : ℕ → ℕ) (t : ℕ) (w : Where) → times (setup x) (shown x v words) t w ≡ tagTimes v t w
   unfolding shown
   times-shown v words t (requested s p) = count-map _ _ t (tagsAt x v s p)
   times-shown v words t (waiting s p) = count-map _ _ t (v .waits s p)
@@ -133,7 +132,7 @@ module _ (x : Network) where
     waits-below s p = counted-all (λ (r : Pair). r .second) (λ t. t < x .R) (v .waits s p) (λ t h. A .below t (waiting s p) h)
 
     -- what stands in a queue or a buffer is not answered
-    pub unanswered : (t : ℕ) (w : Where (setup x)) → 0 < tagTimes v t w → w ≢ answered → v .answered t ≡ false
+    pub unanswered : (t : ℕ) (w : Where) → 0 < tagTimes v t w → w ≢ answered → v .answered t ≡ false
     unanswered t w h n = go (v .answered t) (A .elsewhere t w answered h (λ e. n (sym e)))
       where
         go : (b : Bool) → _≡_ {A = ℕ} (choose b 1 0) 0 → b ≡ false

@@ -9,8 +9,8 @@ use native.Mathlib.Decide.{ℕ-discrete}
 use Rattle.lists.specs.Table.{update}
 use Rattle.lists.proofs.Tests.{by-cases}
 use Rattle.lists.proofs.Tables.{update-same, update-other}
-use Rattle.machine.specs.Steps.{collectOldest, collectStep}
 use Rattle.view.specs.View.{View, withReplies, withAnswer}
+use Rattle.machine.specs.Steps.{collectOldest, collectStep}
 use Rattle.shown.specs.Network.{Network, setup}
 use Rattle.shown.specs.Shown.{answerOf, shown}
 use Rattle.shown.proofs.Carried.{state-eq, replies-updated}

@@ -1,40 +1,22 @@
 -- Drains, round by round; and where every request is answered nothing moves any more.
 use Prim.Native.Nat.{ℕ, zero, suc, _+_, _-_, _≤_, _<_}
-use mathlib.Core.Path.{_≡_, refl, sym, ap, _∙_}
+use mathlib.Core.Path.{_≡_, refl, ap}
 use mathlib.Core.Bool.{true, false}
-use mathlib.Core.List.{List, [], _∷_, map}
+use mathlib.Core.List.{List}
 use native.Mathlib.Omega.{arith}
-use Rattle.lists.specs.Search.{All, nil, cons}
+use Rattle.lists.specs.Search.{All}
 use Rattle.lists.proofs.Tests.{test-cases}
-use Rattle.event.specs.Event.{Event, Act, event, drain, levelFits}
-use Rattle.machine.specs.Setup.{Setup}
-use Rattle.machine.specs.State.{State, start}
-use Rattle.machine.specs.Steps.{step}
-use Rattle.machine.specs.Run.{Ran, runEvents, round, drainRun, allAnswered, runAct, runActs}
-use Rattle.machine.specs.Order.{Named, atStart}
-use Rattle.machine.proofs.Demand3.{drain-from}
-use Rattle.machine.proofs.Rest.{drain-rests, answered-rests}
+use Rattle.event.specs.Event.{Act}
 use Rattle.view.specs.View.{View, withRound}
+use Rattle.machine.specs.Setup.{Setup}
+use Rattle.machine.specs.Run.{Ran, runEvents, round, drainRun, allAnswered, runActs}
+use Rattle.machine.specs.Order.{Named}
+use Rattle.machine.proofs.Sound.{drain-from}
+use Rattle.machine.proofs.Rest.{drain-rests, reached-rests}
 use Rattle.shown.specs.Network.{Network, setup}
 use Rattle.shown.specs.Shown.{shown}
 use Rattle.shown.specs.Reached.{Stands, shownRun, Moved}
-use Rattle.shown.proofs.Levels.{AllFit}
 use Rattle.shown.proofs.Reaching.{moves-few, stands-lawful}
-
--- ---- events as acts
-abbrev acts-of : List Event → List Act
-acts-of es = map event es
-
-module _ (S : Setup) where
-  acts-run : (es : List Event) (st : State S) (c : ℕ) →
-      runActs S (acts-of es) (record { state = st; rounds = c }) ≡ record { state = runEvents S es st; rounds = c }
-  unfolding runActs runAct runEvents
-  acts-run [] st c = refl
-  acts-run (e ∷ es) st c = acts-run es (step S e st) c
-
-  acts-named : {es : List Event} → AllFit (S .k) es → All (Named (S .k)) (acts-of es)
-  acts-named nil = nil
-  acts-named (cons h hs) = cons h (acts-named hs)
 
 -- "The rounds counted are the rounds run": none is taken back
 drain-counts : (S : Setup) (n : ℕ) (r : Ran S) → r .rounds ≤ drainRun S n r .rounds
@@ -80,24 +62,9 @@ module _ {x : Network} {v : View} {words : ℕ → ℕ} where
       drainRun (setup x) n (shownRun x v words) ≡ drainRun (setup x) m (shownRun x v₁ words₁) → v₁ .rounds ≤ v .rounds + 2560
   rounds-few S n m v₁ words₁ e = omega (arith, drain-few S n, ap (λ (r : Ran (setup x)). r .rounds) e, drain-counts (setup x) m (shownRun x v₁ words₁))
 
-  -- ---- every request is answered
-  module _ (S : Stands x v words) (h : allAnswered (setup x) (shown x v words) ≡ true) where
-    reached-run : runActs (setup x) (acts-of (S .reached .events)) (atStart (setup x) (S .reached .from)) ≡ record { state = shown x v words; rounds = 0 }
-    reached-run =
-        acts-run (setup x) (S .reached .events) (start (setup x) (S .reached .from)) 0 ∙ ap (λ (st : State (setup x)). record { state = st; rounds = 0 }) (sym (S .reached .reached))
-
-    event-rests : (e : Event) → levelFits (x .k) (e .what) (e .level) ≡ true → step (setup x) e (shown x v words) ≡ shown x v words
-    unfolding runActs runAct
-    event-rests e f = ap (λ (r : Ran (setup x)). r .state) (
-        rw reached-run at (answered-rests (setup x) (stands-lawful S) (S .reached .from) (acts-of (S .reached .events)) (acts-named (setup x) (S .reached .named))
-        (event e ∷ []) (cons f nil) (rw reached-run h)))
-
-    act-rests : (a : Act) → Named (x .k) a → runAct (setup x) a (shownRun x v words) ≡ shownRun x v words
-    unfolding runAct
-    act-rests (event e) f = ap (λ (st : State (setup x)). record { state = st; rounds = v .rounds }) (event-rests e f)
-    act-rests (drain n) f = drain-stops x v words h n
-
-    pub all-rest : (acts : List Act) → All (Named (x .k)) acts → runActs (setup x) acts (shownRun x v words) ≡ shownRun x v words
-    unfolding runActs
-    all-rest [] f = refl
-    all-rest (a ∷ acts) (cons f fs) = ap (runActs (setup x) acts) (act-rests a f) ∙ all-rest acts fs
+  -- every request is answered: nothing moves any more
+  pub all-rest : Stands x v words → allAnswered (setup x) (shown x v words) ≡ true → (acts : List Act) → All (Named (x .k)) acts
+      → runActs (setup x) acts (shownRun x v words) ≡ shownRun x v words
+  all-rest S h acts named =
+      rw (S .reached .reached)
+      (reached-rests (setup x) (stands-lawful S) (S .reached .from) (S .reached .named) (rw (S .reached .reached) at h) acts named (v .rounds))

@@ -53,10 +53,10 @@ module _ {v : View} {t s p : ℕ} {v′ : View} {came : Came} (L : Landed v t s 
 
 -- ---- the first tag of a level and position
 module _ {x : Network} {v : View} {words : ℕ → ℕ} (S : Stands x v words) (s p t : ℕ) (rest : List ℕ) (is : tagsAt x v s p ≡ t ∷ rest) where
-  elsewhere : (w : Where (setup x)) → w ≢ requested s p → tagTimes x v t w ≡ 0
+  elsewhere : (w : Where) → w ≢ requested s p → tagTimes x v t w ≡ 0
   elsewhere w n = stands-apart S .elsewhere t (requested s p) w (oldest-requested x v s p is) n
 
-  onward : (to : ℕ) → _≢_ {A = Where (setup x)} (requested (suc s) to) (requested s p)
+  onward : (to : ℕ) → _≢_ {A = Where} (requested (suc s) to) (requested s p)
   onward to = request-elsewhere (suc s) to s p (λ e. omega (arith, e .0))
 
   pub forward-below : t < x .R
@@ -112,7 +112,7 @@ module _ {x : Network} {v : View} {words : ℕ → ℕ} (S : Stands x v words) (
           (shown-arrives ∙ ap (λ (c : Came). arrivalOf x c (nodeOf x v′ (v′ .requests (suc s) to) (v′ .waits (suc s) to))) c)
 
       -- ---- who carries what they did: who stands elsewhere, and who stands behind it
-      kept : (w : Where (setup x)) → w ≢ requested s p → w ≢ requested (suc s) to → (u : ℕ) → 0 < tagTimes x v u w → v′ .carried u ≡ v .carried u
+      kept : (w : Where) → w ≢ requested s p → w ≢ requested (suc s) to → (u : ℕ) → 0 < tagTimes x v u w → v′ .carried u ≡ v .carried u
       kept w n m u h =
           L .others u (λ e. (let z : tagTimes x v u w ≡ 0 = rw e (elsewhere w n) in omega arith))
           (stands-apart S .elsewhere u w (requested (suc s) to) h (λ e. m (sym e)))

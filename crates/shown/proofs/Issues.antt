@@ -6,9 +6,9 @@ use mathlib.Core.List.{List, [], _∷_}
 use lib.Dec.{ltb}
 use Rattle.lists.specs.Choice.{choose}
 use Rattle.wiring.specs.Wiring.{positionOn}
+use Rattle.view.specs.View.{View, withRequests}
 use Rattle.machine.specs.Order.{requested}
 use Rattle.machine.specs.Steps.{issueStep}
-use Rattle.view.specs.View.{View, withRequests}
 use Rattle.shown.specs.Network.{Network, setup, ofEngine}
 use Rattle.shown.specs.Shown.{unissued, tagsAt, shown}
 use Rattle.shown.specs.Landing.{Came, cameRefused, Landed}

@@ -5,9 +5,9 @@ use mathlib.Core.List.{List, [], _∷_, _++_}
 use native.Mathlib.Numerals.{add-one}
 use native.Mathlib.Omega.{arith}
 use Rattle.event.specs.Event.{Event}
+use Rattle.view.specs.View.{View}
 use Rattle.machine.specs.Run.{runEvents, row, rowsUp, rowsDown}
 use Rattle.machine.proofs.Moments.{events-append}
-use Rattle.view.specs.View.{View}
 use Rattle.shown.specs.Network.{Network, setup}
 use Rattle.shown.specs.Shown.{shown}
 use Rattle.shown.specs.Reached.{Moved}

@@ -5,9 +5,9 @@ use mathlib.Core.Path.{_≡_, ap}
 use mathlib.Core.List.{List, _∷_}
 use native.Mathlib.Nat.{le-trans, mul-le-mul-left}
 use native.Mathlib.Omega.{arith}
+use Rattle.view.specs.View.{View}
 use Rattle.machine.specs.Order.{requested}
 use Rattle.machine.specs.Sound.{Sound}
-use Rattle.view.specs.View.{View}
 use Rattle.shown.specs.Network.{Network, setup, Fits}
 use Rattle.shown.specs.Shown.{unissued, shown}
 use Rattle.shown.proofs.Apart.{Apart, oldest-requested}

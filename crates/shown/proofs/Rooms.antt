@@ -2,9 +2,9 @@
 use Prim.Native.Nat.{ℕ, suc, _≤_}
 use native.Mathlib.Nat.{le-trans}
 use lib.ListN.{length, length-map}
+use Rattle.view.specs.View.{View}
 use Rattle.machine.specs.Rooms.{WithinRooms}
 use Rattle.machine.proofs.Rooms.{rooms}
-use Rattle.view.specs.View.{View}
 use Rattle.shown.specs.Network.{Network, setup}
 use Rattle.shown.specs.Shown.{messageOf, recordOf, replyOf, shown}
 use Rattle.shown.specs.Reached.{Stands}

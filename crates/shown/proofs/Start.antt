@@ -8,10 +8,10 @@ use Rattle.lists.specs.Choice.{choose}
 use Rattle.lists.specs.Search.{All, nil, cons, only}
 use Rattle.lists.proofs.Tests.{test-cases}
 use Rattle.lists.proofs.Every.{all-map}
+use Rattle.view.specs.View.{View}
 use Rattle.machine.specs.Setup.{Message}
 use Rattle.machine.specs.State.{start, tagsBelow, asked, askedBy}
 use Rattle.machine.specs.State as machine
-use Rattle.view.specs.View.{View}
 use Rattle.shown.specs.Network.{Network, setup, tagsFrom}
 use Rattle.shown.specs.Shown.{unissued, messageOf, recordOf, replyOf, tagsAt, answerOf, shown}
 use Rattle.shown.specs.Reached.{AtStart}
@@ -25,7 +25,7 @@ module _ (x : Network) where
   tags-longer (suc n) t =
       let z : suc t + n ≡ t + suc n = omega arith in ap (λ (l : List ℕ). t ∷ l) (tags-longer n (suc t) ∙ ap (λ (u : ℕ). tagsFrom n (suc t) ++ (u ∷ [])) z)
 
-  tags-all : (n : ℕ) → tagsFrom n 0 ≡ tagsBelow (setup x) n
+  tags-all : (n : ℕ) → tagsFrom n 0 ≡ tagsBelow n
   unfolding tagsBelow tagsFrom
   tags-all zero = refl
   tags-all (suc n) = let z : 0 + n ≡ n = omega arith in tags-longer n 0 ∙ ap₂ (λ (l : List ℕ) (u : ℕ). l ++ (u ∷ [])) (tags-all n) z

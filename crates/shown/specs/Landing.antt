@@ -5,10 +5,10 @@ use mathlib.Core.Logic.{_≢_}
 use mathlib.Core.List.{List, map}
 use Rattle.lists.specs.Count.{count}
 use Rattle.lists.specs.Table.{update2}
-use Rattle.operation.specs.declared.Words.{Words}
-use Rattle.machine.specs.Arrival.{Node, Arrival, merged, appended, refused, arrive}
 use Rattle.lists.specs.Pair.{Pair}
+use Rattle.operation.specs.declared.Words.{Words}
 use Rattle.view.specs.View.{View, filled}
+use Rattle.machine.specs.Arrival.{Node, Arrival, merged, appended, refused, arrive}
 use Rattle.shown.specs.Network.{Network, setup}
 use Rattle.shown.specs.Shown.{messageOf, recordOf}
 

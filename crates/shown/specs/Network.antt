@@ -7,9 +7,9 @@ use Rattle.lists.specs.Choice.{choose}
 use Rattle.lists.specs.Search.{only}
 use Rattle.operation.specs.declared.Operation.{Operation}
 use Rattle.wiring.specs.Wiring.{positionOn}
+use Rattle.view.specs.View.{Fixed}
 use Rattle.machine.specs.Setup.{Setup, place}
 use Rattle.machine.specs.Omega.{omegaNetwork}
-use Rattle.view.specs.View.{Fixed}
 
 -- a shape, the number of requests, and of each tag its engine, its address and the operation that it asks for
 pub record Network : Type 0 where

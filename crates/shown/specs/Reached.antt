@@ -8,9 +8,9 @@ use lib.Dec.{eqb, ltb}
 use Rattle.lists.specs.Choice.{choose}
 use Rattle.lists.specs.Search.{All}
 use Rattle.event.specs.Event.{Event, levelFits}
+use Rattle.view.specs.View.{View}
 use Rattle.machine.specs.State.{State, start}
 use Rattle.machine.specs.Run.{Ran, runEvents}
-use Rattle.view.specs.View.{View}
 use Rattle.shown.specs.Network.{Network, setup, nextOf, Fits}
 use Rattle.shown.specs.Shown.{operationIn, shown}
 

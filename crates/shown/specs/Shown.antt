@@ -5,14 +5,14 @@ use mathlib.Core.Option.{Option, none, some}
 use lib.Dec.{eqb}
 use Rattle.lists.specs.Choice.{choose}
 use Rattle.lists.specs.Search.{Found, firstOf}
+use Rattle.lists.specs.Pair.{Pair}
 use Rattle.operation.specs.Operation.{operationOf}
 use Rattle.operation.specs.declared.Operation.{Operation}
 use Rattle.operation.specs.declared.Words.{Words}
 use Rattle.wiring.specs.Wiring.{positionOn}
+use Rattle.view.specs.View.{View}
 use Rattle.machine.specs.Setup.{Message, WaitRecord, Reply}
 use Rattle.machine.specs.State.{State}
-use Rattle.lists.specs.Pair.{Pair}
-use Rattle.view.specs.View.{View}
 use Rattle.shown.specs.Network.{Network, setup, ofEngine}
 
 -- the operation that a tag carries; what it carries once it is answered with a value

@@ -2,9 +2,9 @@
 use borrow.Author.Needs.{needs}
 use mathlib.Core.Path.{sym, _∙_, ap}
 use Rattle.trace.specs.Answers as checked
+use Rattle.run.proofs.Loading.{load-loading}
 use Rattle.model.specs.Result.{Lent, lent}
 use Rattle.model.proofs.Given.{may-give, gives-leaves}
-use Rattle.run.proofs.Loading.{load-loading}
 use Rattle.model.proofs.Entry.{room-told, promised-refused, promised-no-room, promised-ran}
 use Rattle.model.proofs.model.Statement.{statement}
 use Rattle.model.proofs.model.Tie as tie
