@@ -2,20 +2,18 @@
 use Prim.Native.Nat.{ℕ}
 use mathlib.Core.Path.{_≡_, _∙_, ap}
 use mathlib.Core.List.{List}
-use Rattle.trace.specs.Bytes.{AreBytes}
 use Rattle.model.specs.Result.{Lent, result, memoryAfter}
 use Rattle.model.specs.Promise.{said}
 use Rattle.model.specs.Demands.{Demands}
-use Rattle.model.proofs.Demands.{demands}
 use Rattle.whetbracken.specs.Interface.{numbers, Answered}
 use Rattle.whetbracken.specs.declared.Numbers.{Numbers}
 
 module _ {trace : List ℕ} {before after : Lent} {r : Numbers} (p : Answered trace before r after) where
   pub numbers-said : r ≡ numbers (said (result trace before))
-  numbers-said = p .numbers-are ∙ ap numbers (p .promised .answer-is)
+  numbers-said = p .numbers-are ∙ ap numbers (p .kept .promised .answer-is)
 
   pub memory-left : after ≡ memoryAfter (result trace before) before
-  memory-left = p .promised .memory-is
+  memory-left = p .kept .promised .memory-is
 
-  pub meets-demands : AreBytes trace → Demands trace before (p .answer) after
-  meets-demands are = demands trace are before (p .answer) after (p .promised)
+  pub meets-demands : Demands trace before (p .answer) after
+  meets-demands = p .kept .demands

@@ -3,7 +3,8 @@ use Prim.Native.Nat.{ℕ}
 use mathlib.Core.Path.{_≡_}
 use mathlib.Core.List.{List}
 use Rattle.model.specs.Result.{Lent}
-use Rattle.model.specs.Promise.{Said, refused, counted, says, Promised}
+use Rattle.model.specs.Promise.{Said, refused, counted, says}
+use Rattle.model.specs.Demands.{Kept}
 use Rattle.model.specs.declared.Answer.{Answer}
 use Rattle.report.specs.Written.{Reported}
 use Rattle.report.specs.declared.Written.{Written}
@@ -15,11 +16,11 @@ abbrev pub numbers : Said → Numbers
 numbers (refused n offset) = record { refusal = n; offset = offset; ordered = 0; accesses = 0; merges = 0; rounds = 0 }
 numbers (counted ordered accesses merges rounds) = record { refusal = 0; offset = 0; ordered = ordered; accesses = accesses; merges = merges; rounds = rounds }
 
--- the numbers of an answer that keeps the promise of `model`, with the final content of all lent memory
+-- the numbers of an answer that keeps the promise of `model` and meets the demands, with the final content of all lent memory
 pub record Answered (trace : List ℕ) (before : Lent) (r : Numbers) (after : Lent) : Type 0 where
   pub answer : Answer
   pub numbers-are : r ≡ numbers (says answer)
-  pub promised : Promised trace before answer after
+  pub kept : Kept trace before answer after
 
 -- the length of what keeps the promise of `report`: 0 where the buffer has no room for every report, and then it stays
 pub record Wrote (trace before : List ℕ) (len : ℕ) (after : List ℕ) : Type 0 where

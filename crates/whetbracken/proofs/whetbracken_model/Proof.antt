@@ -22,7 +22,9 @@ same-length-4 : tie.Need-same-length-4
 same-length-4 c = search needs
 
 returns : tie.Need-returns
-returns c = record { answer = _; numbers-are = c .numbers-of .ensures; promised = c .before .before .before .before .before .before .before .before .before .model .ensures }
+returns c =
+    let d = c .before .before .before .before .before .before .before .before .before in
+    record { answer = _; numbers-are = c .numbers-of .ensures; kept = d .model .ensures }
 
 pub whetbracken-model-spec : {M : Type 1} → statement M
 whetbracken-model-spec =
