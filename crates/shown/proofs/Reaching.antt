@@ -14,7 +14,7 @@ use Rattle.machine.specs.Sound.{Sound}
 use Rattle.machine.proofs.Omega.{omega-lawful}
 use Rattle.machine.proofs.Moments.{events-append}
 use Rattle.machine.proofs.Demand3.{sound}
-use Rattle.view.specs.View.{Fixed, View}
+use Rattle.view.specs.View.{View}
 use Rattle.shown.specs.Network.{Network, setup, Ranges, Fits}
 use Rattle.shown.specs.Shown.{shown}
 use Rattle.shown.specs.Reached.{Reached, Stands, Moved, AtStart}
@@ -45,7 +45,7 @@ module _ {x : Network} where
 
   module _ {v : View} {words : ℕ → ℕ} where
     pub moved-stands : {es : List Event} {v′ : View} {words′ : ℕ → ℕ} → Stands x v words → AllFit (x .k) es → Moved x es v words v′ words′ → Stands x v′ words′
-    moved-stands {es} S f m = record { fits = subst (λ (f : Fixed). Fits x f) (sym (m .fixed)) (S .fits); reached = reached-events es f (m .shows) (S .reached) }
+    moved-stands {es} S f m = record { fits = subst (Fits x) (sym (m .fixed)) (S .fits); reached = reached-events es f (m .shows) (S .reached) }
 
     pub stands-lawful : Stands x v words → Lawful (setup x)
     stands-lawful S = ranges-lawful (S .fits .ranges)

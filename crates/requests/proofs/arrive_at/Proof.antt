@@ -92,9 +92,11 @@ returns-2 c = let a = c .before .before .before .before .before .before in
     went-appended (loaded (a .before .before)) (a .arrive .ensures) (c .before .before .before .enum-told2 .given .1) (c .store-longer-requests .ensures)
 
 returns-3 : tie.Need-returns-3
-returns-3 c = let stored = c .before .before in
+returns-3 c =
+    let stored = c .before .before in
     let a = stored .before .before .before .before .before .before in
-    went-merged (loaded (a .before .before)) (a .arrive .ensures) (stored .store-longer-waits .ensures) (stored .before .before .before .enum-told3 .given .1) (c .add-merge .ensures)
+    let merged = stored .before .before .before .enum-told3 .given .1 in
+    went-merged (loaded (a .before .before)) (a .arrive .ensures) (stored .store-longer-waits .ensures) merged (c .add-merge .ensures)
 
 pub arrive-at-spec : {M : Type 1} → statement M
 arrive-at-spec =
