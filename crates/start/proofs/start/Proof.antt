@@ -36,7 +36,8 @@ loop-again : tie.Need-loop-again Inv-loop μ-loop
 loop-again c =
     let l = c .before .before .before in
     let i = l .loop in
-    linking-more (l .before .set-shape .last .0) (i .m) (l .before .before .before .args .count) (i .t) (i .inv) (omega arith) (c .link .last .0) (c .link .ensures)
+    let shaped = l .before in
+    linking-more (shaped .set-shape .last .0) (i .m) (shaped .before .before .args .count) (i .t) (i .inv) (omega arith) (c .link .last .0) (c .link .ensures)
 
 returns : tie.Need-returns Inv-loop μ-loop
 returns c =
