@@ -24,13 +24,13 @@ use Rattle.queue.specs.Queue.{tagsOf, pairIn, pairsOf, HeldTags, HeldPairs}
 use Rattle.queue.specs.declared.Tags.{Tags}
 use Rattle.queue.specs.declared.Pairs.{Pairs}
 use Rattle.queue.specs.declared.Place.the-variants.{At}
-use Rattle.view.specs.View.{View, withCarried}
+use Rattle.view.specs.View.{View, withCarried, operationIn}
 use Rattle.store.specs.Layout.{size}
 use Rattle.store.specs.Memory.{view, Becomes}
 use Rattle.machine.specs.Setup.{Message}
 use Rattle.machine.specs.Arrival as machine
 use Rattle.shown.specs.Network.{Network, setup}
-use Rattle.shown.specs.Shown.{operationIn, messageOf, recordOf}
+use Rattle.shown.specs.Shown.{messageOf, recordOf}
 use Rattle.shown.proofs.Carried.{messages-kept, records-kept}
 use Rattle.node.specs.Node.{HeldNode, nodeIn, ApartAt, youngestTag, foundIn, AppendedTo, ArrivedAt}
 use Rattle.node.specs.declared.Node.{Node}
@@ -122,7 +122,8 @@ module _ (x : Network) (v : View) (n : Node) (t : ℕ) where
   unfolding machine.arrive machine.meet
   arrive-alone e = rw (youngest-message, ← e)
 
-  module _ (older : List ℕ) (u : ℕ) (younger : List ℕ) (f : found older u younger ≡ youngestTag (v .fixed .address) (v .fixed .address t) (tagsOf (n .queue))) where
+  module _ (older : List ℕ) (u : ℕ) (younger : List ℕ)
+      (f : found older u younger ≡ youngestTag (v .fixed .address) (v .fixed .address t) (tagsOf (n .queue))) where
     arrive-never : Never ≡ operations.merged (operationIn (v .carried u)) (operationIn (v .carried t)) → Appends
     unfolding machine.arrive machine.meet machine.combine
     arrive-never e = rw (youngest-message, ← f, ← e)
@@ -229,7 +230,8 @@ module _ (n : Node) (v : View) (t u : ℕ) (older younger : List ℕ) (o : Opera
 
 -- ---- the tag u is read where the youngest match is found, and what it and t carry is read
 module _ (n : Node) (m : List ℕ) (t q w i u : ℕ)
-    (place : foundIn (n .queue) (At i) ≡ youngestTag (view m .fixed .address) (view m .fixed .address t) (tagsOf (n .queue))) (read : u ≡ byteIn (n .queue .items) i)
+    (place : foundIn (n .queue) (At i) ≡ youngestTag (view m .fixed .address) (view m .fixed .address t) (tagsOf (n .queue)))
+    (read : u ≡ byteIn (n .queue .items) i)
     (before arriving : Operation) (before-is : before ≡ operationIn (view m .carried u)) (arriving-is : arriving ≡ operationIn (view m .carried t)) where
   older : List ℕ
   older = downFrom (n .queue .len - suc i) (λ j. byteIn (n .queue .items) (suc i + j))

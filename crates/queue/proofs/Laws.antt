@@ -10,16 +10,16 @@ use lib.Dec.{eqb}
 use borrow.Author.Tests.{eq-eqb, ne-eqb}
 use Rattle.lists.specs.Table.{listBelow}
 use Rattle.lists.specs.Search.{firstOf, found}
+use Rattle.lists.specs.Pair.{Pair}
 use Rattle.lists.proofs.Below.{getD-below, below-same, below-without, firstOf-below, firstOf-below-none, getD-down, down-push}
 use Rattle.words.specs.Digits.{byteIn, Pushed, Topped, Without, PlaceOf}
-use Rattle.lists.specs.Pair.{Pair}
 use Rattle.queue.specs.Queue.{tagsIn, pairIn, pairsIn, noPair, foundAt}
 use Rattle.queue.specs.declared.Place.the-variants.{At, Nowhere}
 
 -- ---- tags
 
-pub tags-push : (w n t r : ℕ) → n < 8 → Pushed w t r → tagsIn r (n + 1) ≡ tagsIn w n ++ (t ∷ [])
-tags-push w n t r l h = rw add-one (down-push n (byteIn w) (byteIn r) t (h .lowest) (λ i m. h .above i (omega arith)))
+pub tags-push : (w n : ℕ) {t r : ℕ} → n < 8 → Pushed w t r → tagsIn r (n + 1) ≡ tagsIn w n ++ (t ∷ [])
+tags-push w n {t} {r} l h = rw add-one (down-push n (byteIn w) (byteIn r) t (h .lowest) (λ i m. h .above i (omega arith)))
 
 pub tags-oldest : (w n : ℕ) → 0 < n → byteIn w (n - 1) ≡ getD (tagsIn w n) 0 0
 tags-oldest w n l = sym (getD-down 0 n (byteIn w) 0 l)
@@ -37,18 +37,19 @@ module _ (firsts seconds n : ℕ) where
   pub pairs-at : (i : ℕ) → i < n → getD (pairsIn firsts seconds n) i noPair ≡ pairIn firsts seconds i
   pairs-at i l = getD-below noPair n (pairIn firsts seconds) i l
 
-  pub pairs-push : (a b firsts′ seconds′ : ℕ) → Topped firsts n a firsts′ → Topped seconds n b seconds′ →
+  pub pairs-push : {a b firsts′ seconds′ : ℕ} → Topped firsts n a firsts′ → Topped seconds n b seconds′ →
       pairsIn firsts′ seconds′ (n + 1) ≡ pairsIn firsts seconds n ++ (record { first = a; second = b } ∷ [])
   unfolding listBelow
-  pairs-push a b firsts′ seconds′ h h′ =
+  pairs-push {firsts′ = firsts′} {seconds′ = seconds′} h h′ =
       rw add-one (ap₂ (λ (l : List Pair) (p : Pair). l ++ (p ∷ []))
       (below-same n (pairIn firsts′ seconds′) (pairIn firsts seconds) (λ i l. pair-is (h .below i l) (h′ .below i l)))
       (pair-is (h .highest) (h′ .highest)))
 
-  pub pairs-without : (i firsts′ seconds′ : ℕ) → i < n → Without firsts i firsts′ → Without seconds i seconds′ →
+  pub pairs-without : {i firsts′ seconds′ : ℕ} → i < n → Without firsts i firsts′ → Without seconds i seconds′ →
       pairsIn firsts′ seconds′ (n - 1) ≡ take i (pairsIn firsts seconds n) ++ drop (suc i) (pairsIn firsts seconds n)
-  pairs-without i firsts′ seconds′ l h h′ =
-      below-without n (pairIn firsts seconds) (pairIn firsts′ seconds′) i l (λ j m. pair-is (h .below j m) (h′ .below j m)) (λ j m. pair-is (h .above j m) (h′ .above j m))
+  pairs-without {i} {firsts′} {seconds′} l h h′ =
+      below-without n (pairIn firsts seconds) (pairIn firsts′ seconds′) i l
+      (λ j m. pair-is (h .below j m) (h′ .below j m)) (λ j m. pair-is (h .above j m) (h′ .above j m))
 
   -- "The oldest record with the first tag": at the lowest place that has it, of those in use
   module _ (t i : ℕ) (h : PlaceOf 8 firsts t i) (small : n ≤ 8) where

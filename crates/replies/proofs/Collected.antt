@@ -26,9 +26,10 @@ collected-open {m} R e t some oldest popped =
 pub collected : {m m₁ m₂ : List ℕ} (e t : ℕ) → 0 < length (view m .replies 0 e) → t ≡ getD (view m .replies 0 e) 0 0 →
     Becomes m₁ (withReplies (view m) 0 e (drop 1 (view m .replies 0 e))) → Becomes m₂ (withAnswer (view m₁) t) → Moves (single 4 0 e) m m₂
 collected {m} {m₁} {m₂} e t some oldest popped marked =
-    let is : view m₂ ≡ withAnswer (withReplies (view m) 0 e (drop 1 (view m .replies 0 e))) t = marked .holds ∙ ap (λ (v : View). withAnswer v t) (popped .holds) in
+    let rest = drop 1 (view m .replies 0 e) in
+    let is : view m₂ ≡ withAnswer (withReplies (view m) 0 e rest) t = marked .holds ∙ ap (λ (v : View). withAnswer v t) (popped .holds) in
+    let first = first-is (view m .replies 0 e) t some oldest in
     record {
       sized = marked .sized;
-      moved =
-          λ x words _. rw is (collect-moves 4 0 e refl refl refl (collect-shows x (view m) words e t (drop 1 (view m .replies 0 e)) (first-is (view m .replies 0 e) t some oldest)));
+      moved = λ x words _. rw is (collect-moves 4 0 e refl refl refl (collect-shows x (view m) words e t rest first));
     }

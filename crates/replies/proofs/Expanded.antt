@@ -20,7 +20,7 @@ use Rattle.queue.specs.Queue.{pairIn, pairsIn}
 use Rattle.shown.specs.Shown.{secondsFor, tagsFor}
 use Rattle.store.specs.Layout.{size}
 use Rattle.store.specs.Memory.{view, Becomes}
-use Rattle.replies.specs.Returns.{WaitsFit}
+use Rattle.replies.specs.Returns.{ExpansionFits, withExpansion, WaitsFit}
 
 -- ---- what the second tags of t's records among the first i stand for
 module _ (upTo : ℕ → List ℕ) (t : ℕ) where
@@ -90,13 +90,13 @@ module _ (path : ℕ → ℕ) (waits : ℕ → ℕ → List Pair) where
 
 -- ---- "up to level 0 they are t alone"
 module _ (m : List ℕ) (level t : ℕ) (bottom : level ≡ 0) where
-  pub one-room : length (view m .order) + length (tagsFor (view m .fixed .path) (view m .waits) level t) ≤ 256 → length (view m .order) < 256
+  pub one-room : ExpansionFits (view m) level t → length (view m .order) < 256
   one-room room =
       let one : length (view m .order) + length (t ∷ []) ≤ 256 = rw (tags-zero (view m .fixed .path) (view m .waits) level t bottom) at room in
       omega (arith, one)
 
   pub put-one : {m′ : List ℕ} → Becomes m′ (withOrder (view m) (t ∷ [])) →
-      Becomes m′ (withOrder (view m) (tagsFor (view m .fixed .path) (view m .waits) level t))
+      Becomes m′ (withExpansion (view m) level t)
   put-one b = rw (tags-zero (view m .fixed .path) (view m .waits) level t bottom) b
 
 -- ---- the order list grows
@@ -107,48 +107,54 @@ order-more v xs ys = rw (append-assoc (v .order) xs ys)
 abbrev pub under : View → ℕ → ℕ → List ℕ
 under v level = tagsFor (v .fixed .path) (v .waits) (level - 1)
 
+-- what the records before place i, with the first tag t, stand for
+abbrev pub gone : View → (level t firsts seconds i : ℕ) → List ℕ
+gone v level t firsts seconds = sofar (under v level) t (pairIn firsts seconds)
+
 pub fit-kept : {v : View} {m′ : List ℕ} (l : List ℕ) → WaitsFit v → Becomes m′ (withOrder v l) → WaitsFit (view m′)
 fit-kept l F b = record { few = λ s p. rw (b .holds) (F .few s p) }
 
 pub put-none : (m : List ℕ) (level t firsts seconds i : ℕ) → length m ≡ size → ((j : ℕ) → j < i → byteIn firsts j ≢ t) →
-    Becomes m (withOrder (view m) (sofar (under (view m) level) t (pairIn firsts seconds) i))
+    Becomes m (withOrder (view m) (gone (view m) level t firsts seconds i))
 put-none m level t firsts seconds i sized none =
     record { sized = sized; holds = rw (sofar-none (under (view m) level) t (pairIn firsts seconds) i none, append-nil (view m .order)) }
 
-module _ (m₀ : List ℕ) {m : List ℕ} (level t firsts seconds i : ℕ) (put : Becomes m (withOrder (view m₀) (sofar (under (view m₀) level) t (pairIn firsts seconds) i))) where
+module _ (m₀ : List ℕ) {m : List ℕ} (level t firsts seconds i : ℕ) (put : Becomes m (withOrder (view m₀) (gone (view m₀) level t firsts seconds i))) where
   pub put-hit : {m′ m″ : List ℕ} (first second : ℕ) → first ≡ pairIn firsts seconds i .first → first ≡ t → second ≡ pairIn firsts seconds i .second → m″ ≡ m′ →
-      Becomes m′ (withOrder (view m) (under (view m) level second)) → Becomes m″ (withOrder (view m₀) (sofar (under (view m₀) level) t (pairIn firsts seconds) (i + 1)))
+      Becomes m′ (withOrder (view m) (under (view m) level second)) → Becomes m″ (withOrder (view m₀) (gone (view m₀) level t firsts seconds (i + 1)))
   put-hit {m′} first second e h g now b =
-      let is : view m′ ≡ withOrder (withOrder (view m₀) (sofar (under (view m₀) level) t (pairIn firsts seconds) i)) (under (view m₀) level second) = rw (put .holds) at (b .holds) in
+      let v = view m₀ in
+      let is : view m′ ≡ withOrder (withOrder v (gone v level t firsts seconds i)) (under v level second) = rw (put .holds) at (b .holds) in
       rw now record {
         sized = b .sized;
         holds = is ∙ order-more (view m₀) _ _ ∙ ap (withOrder (view m₀)) (rw (sofar-hit (under (view m₀) level) t (pairIn firsts seconds) i (sym e ∙ h), g));
       }
 
   pub put-miss : {m″ : List ℕ} (first : ℕ) → first ≡ pairIn firsts seconds i .first → first ≢ t → m″ ≡ m →
-      Becomes m″ (withOrder (view m₀) (sofar (under (view m₀) level) t (pairIn firsts seconds) (i + 1)))
+      Becomes m″ (withOrder (view m₀) (gone (view m₀) level t firsts seconds (i + 1)))
   put-miss first e n now = rw (now, sofar-miss (under (view m₀) level) t (pairIn firsts seconds) i (λ z. n (e ∙ z))) put
 
 -- ---- of the whole level
 module _ (m m₀ : List ℕ) (level t p firsts seconds n : ℕ) (up : level ≢ 0) (on : p ≡ positionOn (view m₀ .fixed .path t) level)
-    (loaded : pairsIn firsts seconds n ≡ view m₀ .waits level p) (first : Becomes m₀ (withOrder (view m) (tagsFor (view m .fixed .path) (view m .waits) (level - 1) t))) where
-  tags-all : tagsFor (view m .fixed .path) (view m .waits) level t ≡ under (view m) level t ++ sofar (under (view m) level) t (pairIn firsts seconds) n
+    (loaded : pairsIn firsts seconds n ≡ view m₀ .waits level p) (first : Becomes m₀ (withExpansion (view m) (level - 1) t)) where
+  tags-all : tagsFor (view m .fixed .path) (view m .waits) level t ≡ under (view m) level t ++ gone (view m) level t firsts seconds n
   tags-all = tags-up (view m .fixed .path) (view m .waits) level t p firsts seconds n up (rw (first .holds) at on) (rw (first .holds) at loaded)
 
-  pub put-all : {m′ : List ℕ} (i : ℕ) → sofar (under (view m₀) level) t (pairIn firsts seconds) i ≡ sofar (under (view m₀) level) t (pairIn firsts seconds) n →
-      Becomes m′ (withOrder (view m₀) (sofar (under (view m₀) level) t (pairIn firsts seconds) i)) →
-      Becomes m′ (withOrder (view m) (tagsFor (view m .fixed .path) (view m .waits) level t))
+  pub put-all : {m′ : List ℕ} (i : ℕ) → gone (view m₀) level t firsts seconds i ≡ gone (view m₀) level t firsts seconds n →
+      Becomes m′ (withOrder (view m₀) (gone (view m₀) level t firsts seconds i)) →
+      Becomes m′ (withExpansion (view m) level t)
   put-all {m′} i e b =
-      let is : view m′ ≡ withOrder (withOrder (view m) (under (view m) level t)) (sofar (under (view m) level) t (pairIn firsts seconds) n) = rw (e, first .holds) at (b .holds) in
+      let v = view m in
+      let is : view m′ ≡ withOrder (withOrder v (under v level t)) (gone v level t firsts seconds n) = rw (e, first .holds) at (b .holds) in
       record { sized = b .sized; holds = is ∙ order-more (view m) _ _ ∙ ap (withOrder (view m)) (sym tags-all) }
 
-  pub put-empty : n ≡ 0 → Becomes m₀ (withOrder (view m) (tagsFor (view m .fixed .path) (view m .waits) level t))
+  pub put-empty : n ≡ 0 → Becomes m₀ (withExpansion (view m) level t)
   put-empty e = put-all n refl (put-none m₀ level t firsts seconds n (first .sized) (λ j l. absurd (omega arith)))
 
   -- a record's second tag has room behind those before it
   pub second-room : {m₁ : List ℕ} (i u v : ℕ) → i < n → u ≡ pairIn firsts seconds i .first → u ≡ t → v ≡ pairIn firsts seconds i .second →
-      Becomes m₁ (withOrder (view m₀) (sofar (under (view m₀) level) t (pairIn firsts seconds) i)) →
-      length (view m .order) + length (tagsFor (view m .fixed .path) (view m .waits) level t) ≤ 256 → length (view m₁ .order) + length (under (view m₁) level v) ≤ 256
+      Becomes m₁ (withOrder (view m₀) (gone (view m₀) level t firsts seconds i)) →
+      ExpansionFits (view m) level t → length (view m₁ .order) + length (under (view m₁) level v) ≤ 256
   second-room {m₁} i u v h e g w b room =
       let upTo = under (view m) level in
       let F = pairIn firsts seconds in

@@ -22,10 +22,10 @@ use Rattle.queue.specs.Queue.{pairIn, pairsOf, noPair, foundAt}
 use Rattle.queue.specs.declared.Pairs.{Pairs}
 use Rattle.queue.specs.declared.Place.{Place}
 use Rattle.queue.specs.declared.Place.the-variants.{At, Nowhere}
-use Rattle.view.specs.View.{View, withReplies, withCarried, withWaits}
+use Rattle.view.specs.View.{View, withReplies, withCarried, withWaits, operationIn, valued, withReply}
 use Rattle.store.specs.Layout.{size}
 use Rattle.store.specs.Memory.{view, Becomes}
-use Rattle.shown.specs.Shown.{operationIn, valued, oldestPair}
+use Rattle.shown.specs.Shown.{oldestPair}
 use Rattle.shown.specs.Reached.{single}
 use Rattle.shown.proofs.Reaching.{stands-sound}
 use Rattle.shown.proofs.Returning.{return-lowers, return-lower-full, return-splits, return-split-full}
@@ -47,12 +47,11 @@ module _ (m : List ℕ) (level s p t to : ℕ) (up : level ≡ suc s) (on : to �
     pub target-kept : view m₁ .replies s to ≡ view m .replies s to
     target-kept = rw (popped .holds) (update2-level (view m .replies) level p (drop 1 (view m .replies level p)) s to (omega arith))
 
-    pub lower-room : {m₂ : List ℕ} → length (view m .replies s to) < view m .fixed .q →
-        Becomes m₂ (withReplies (view m₁) s to (view m₁ .replies s to ++ (t ∷ []))) →
-        Lowered (view m) s p t m₂
+    pub lower-room : {m₂ : List ℕ} → length (view m .replies s to) < view m .fixed .q → Becomes m₂ (withReply (view m₁) s to t) → Lowered (view m) s p t m₂
     lower-room {m₂} room pushed =
-        let is : view m₂ ≡ withReplies (view m₁) s to (view m .replies s to ++ (t ∷ [])) = rw target-kept at (pushed .holds) in
-        record { sized = pushed .sized; lowered = rw (← on, lt-ltb _ _ room, ← up) (is ∙ ap (λ (v : View). withReplies v s to (view m .replies s to ++ (t ∷ []))) (popped .holds)) }
+        let longer = view m .replies s to ++ (t ∷ []) in
+        let is : view m₂ ≡ withReplies (view m₁) s to longer = rw target-kept at (pushed .holds) in
+        record { sized = pushed .sized; lowered = rw (← on, lt-ltb _ _ room, ← up) (is ∙ ap (λ (v : View). withReplies v s to longer) (popped .holds)) }
 
 -- ---- the second tag u of the record at place i is answered
 pub answered-room : (m : List ℕ) {m₁ : List ℕ} (s to u : ℕ) (x : Words) → Becomes m₁ (withCarried (view m) u x) → length (view m .replies s to) < 8 →
@@ -66,7 +65,7 @@ module _ (m : List ℕ) (level s p t to u : ℕ) (pairs : List Pair) (i : ℕ) (
 
   pub split-room : {m₁ m₂ m₃ : List ℕ} (f : Operation) (value answer : ℕ) (left : List Pair) → length (view m .replies s to) < view m .fixed .q →
       f ≡ operationIn (view m .carried u) → value ≡ view m .carried t .first → answer ≡ applied f value → left ≡ take i pairs ++ drop (suc i) pairs →
-      Becomes m₁ (withCarried (view m) u (valued (view m .carried u) answer)) → Becomes m₂ (withReplies (view m₁) s to (view m₁ .replies s to ++ (u ∷ []))) →
+      Becomes m₁ (withCarried (view m) u (valued (view m .carried u) answer)) → Becomes m₂ (withReply (view m₁) s to u) →
       Becomes m₃ (withWaits (view m₂) level p left) → SplitOff (view m) s p t pairs i m₃
   split-room f value answer left room operation was answered gone set pushed stored = record {
     sized = stored .sized;

@@ -2,7 +2,7 @@
 use Prim.Native.Nat.{ℕ, _+_, _≤_, _<_}
 use mathlib.Core.Path.{_≡_, refl, sym, ap, _∙_, fun-ext}
 use mathlib.Core.Logic.{_≢_}
-use mathlib.Core.List.{List, [], _∷_, _++_}
+use mathlib.Core.List.{List, _∷_}
 use native.Mathlib.Decide.{ℕ-discrete}
 use native.Mathlib.Omega.{arith}
 use lib.ListN.{length, getD, drop, set, length-set}
@@ -12,10 +12,10 @@ use Rattle.lists.proofs.Tests.{by-cases}
 use Rattle.lists.proofs.Tables.{update-same, update-other}
 use Rattle.lists.proofs.Lists.{first-is}
 use Rattle.operation.specs.Operation.{applied}
-use Rattle.view.specs.View.{withRequests, withReplies, withCarried, withOrder, withAccess}
+use Rattle.view.specs.View.{withRequests, withCarried, withOrder, withAccess, operationIn, valued, withReply}
 use Rattle.store.specs.Memory.{view, Becomes}
 use Rattle.shown.specs.Network.{Network}
-use Rattle.shown.specs.Shown.{operationIn, valued, tagsFor}
+use Rattle.shown.specs.Shown.{tagsFor}
 use Rattle.shown.specs.Reached.{single, Stands}
 use Rattle.shown.proofs.Reaching.{stands-sound, stands-apart}
 use Rattle.shown.proofs.Rely.{request-below, address-few, accesses-few}
@@ -91,7 +91,7 @@ module _ {m words : List ℕ} {k p t : ℕ} (O : Oldest m words k p t) where
       pub reply-room : length (view m₃ .replies k p) < 8
       reply-room = rw (valuedIn .holds, counted .holds, expanded .holds) (omega (arith, O .room, shape-small (O .ready .stands)))
 
-      module _ {m₄ : List ℕ} (pushed : Becomes m₄ (withReplies (view m₃) k p (view m₃ .replies k p ++ (t ∷ [])))) where
+      module _ {m₄ : List ℕ} (pushed : Becomes m₄ (withReply (view m₃) k p t)) where
         pub request-stays : 0 < length (view m₄ .requests k p)
         request-stays = rw (pushed .holds, valuedIn .holds, counted .holds, expanded .holds) oldest-there
 

@@ -12,7 +12,9 @@ use Rattle.replies.specs.Returns.{WaitsFit}
 module _ {x : Network} {v : View} {words : ℕ → ℕ} (S : Stands x v words) where
   pub shape-small : (0 < v .fixed .k) × (v .fixed .k ≤ 4) × (v .fixed .q ≤ 4)
   shape-small =
-      (omega (arith, S .fits .k-is, S .fits .ranges .k-least), omega (arith, S .fits .k-is, S .fits .ranges .k-most), omega (arith, S .fits .q-is, S .fits .ranges .Q-most))
+      let F = S .fits in
+      let R = F .ranges in
+      (omega (arith, F .k-is, R .k-least), omega (arith, F .k-is, R .k-most), omega (arith, F .q-is, R .Q-most))
 
   pub level-small : (level : ℕ) → level ≤ v .fixed .k → level < 5
   level-small level h = omega (arith, h, shape-small)

@@ -5,14 +5,14 @@ use mathlib.Core.List.{List, [], _∷_, _++_}
 use lib.Dec.{ltb}
 use lib.ListN.{length, getD, take, drop}
 use Rattle.lists.specs.Choice.{choose}
+use Rattle.lists.specs.Pair.{Pair}
 use Rattle.operation.specs.Operation.{applied}
 use Rattle.wiring.specs.Wiring.{positionOn}
-use Rattle.lists.specs.Pair.{Pair}
-use Rattle.view.specs.View.{View, withCarried, withReplies, withWaits, withOrder}
-use Rattle.shown.specs.Shown.{operationIn, valued, tagsFor}
 use Rattle.queue.specs.Queue.{noPair}
+use Rattle.view.specs.View.{View, withCarried, withReplies, withWaits, withOrder, operationIn, valued}
 use Rattle.store.specs.Layout.{size}
 use Rattle.store.specs.Memory.{view}
+use Rattle.shown.specs.Shown.{tagsFor}
 
 -- "wait room W 0 to 8"
 pub record WaitsFit (v : View) : Type 0 where
@@ -30,13 +30,16 @@ ExpansionFits v level t = length (v .order) + length (tagsFor (v .fixed .path) (
 abbrev pub withExpansion : View → ℕ → ℕ → View
 withExpansion v level t = withOrder v (tagsFor (v .fixed .path) (v .waits) level t)
 
+-- the view after t itself moved one level down
+abbrev pub loweredFrom : View → ℕ → ℕ → ℕ → View
+loweredFrom v s p t =
+    withReplies (withReplies v (suc s) p (drop 1 (v .replies (suc s) p)))
+    s (positionOn (v .fixed .path t) s) (v .replies s (positionOn (v .fixed .path t) s) ++ (t ∷ []))
+
 -- "t itself moves one level down. If the target queue is full nothing changes."
 pub record Lowered (v : View) (s p t : ℕ) (m′ : List ℕ) : Type 0 where
   pub sized : length m′ ≡ size
-  pub lowered : view m′ ≡
-      choose (ltb (length (v .replies s (positionOn (v .fixed .path t) s))) (v .fixed .q))
-      (withReplies (withReplies v (suc s) p (drop 1 (v .replies (suc s) p))) s (positionOn (v .fixed .path t) s) (v .replies s (positionOn (v .fixed .path t) s) ++ (t ∷ [])))
-      v
+  pub lowered : view m′ ≡ choose (ltb (length (v .replies s (positionOn (v .fixed .path t) s))) (v .fixed .q)) (loweredFrom v s p t) v
 
 -- the view after the second tag u of a record is answered from t, with the records that are left
 abbrev pub answeredFrom : View → ℕ → ℕ → ℕ → ℕ → List Pair → View

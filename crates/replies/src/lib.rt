@@ -10,7 +10,7 @@ ghost use mathlib.Core.Path.{_≡_};
 ghost use Prim.Native.Nat.{_-_, _≤_, _<_};
 ghost use lib.ListN.{length, getD, set};
 ghost use Rattle.operation.specs.Operation.{applied};
-ghost use Rattle.shown.specs.Shown.{operationIn};
+ghost use Rattle.view.specs.View.{operationIn};
 ghost use Rattle.queue.specs.Queue.{pairsOf, HeldPairs};
 ghost use Rattle.store.specs.Layout.{size};
 ghost use Rattle.store.specs.Memory.{view, Becomes};

@@ -48,7 +48,8 @@ went-not cameRefused e = refl
 pub rooms : {m : List ℕ} → Ready m → (view m .fixed .q ≤ 4) × (view m .fixed .w ≤ 8) × (view m .merges < 65536)
 rooms {m} R =
     let F = R .stands .fits in
-    (rw (F .q-is) (F .ranges .Q-most), rw (F .w-is) (F .ranges .W-most), omega (arith, merges-few (R .network) (view m) F (R .words) (stands-sound (R .stands))))
+    let merges = merges-few (R .network) (view m) F (R .words) (stands-sound (R .stands)) in
+    (rw (F .q-is) (F .ranges .Q-most), rw (F .w-is) (F .ranges .W-most), omega (arith, merges))
 
 pub levels-few : {m : List ℕ} → Ready m → view m .fixed .k ≤ 4
 levels-few {m} R = rw (R .stands .fits .k-is) (R .stands .fits .ranges .k-most)
@@ -94,8 +95,11 @@ module _ {m : List ℕ} {es : List Event} {s p t to : ℕ} (G : Going m es s p t
       stays : (x : Network) (words : ℕ → ℕ) → Stands x (view m) words → shown x (view m) words ≡ forwardStep (setup x) s p (shown x (view m) words)
       stays x words S =
           let f = first x in
-          let no-room = both-at-most (view m .fixed .q) (length (view m .requests (s + 1) to)) (view m .fixed .w) (length (view m .waits (s + 1) to)) (sym full ∙ taken) in
-          forward-full S s p t (f .0) (f .1) (G .inside x words S) to above (rw (S .fits .q-is, add-one) at (no-room .0)) (rw (S .fits .w-is, add-one) at (no-room .1))
+          let queue = length (view m .requests (s + 1) to) in
+          let waits = length (view m .waits (s + 1) to) in
+          let no-room = both-at-most (view m .fixed .q) queue (view m .fixed .w) waits (sym full ∙ taken) in
+          forward-full S s p t (f .0) (f .1) (G .inside x words S) to above
+          (rw (S .fits .q-is, add-one) at (no-room .0)) (rw (S .fits .w-is, add-one) at (no-room .1))
 
   -- ---- it arrives there, or cannot
   module _ {m₁ : List ℕ} {r : Bool} (W : Went (view m) t (s + 1) to m₁ r) where

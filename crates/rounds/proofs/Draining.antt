@@ -37,8 +37,8 @@ draining-begins R f = record { began = R; few = f; ready = R; fixed = refl; stan
 
 module _ {allowed left : ℕ} {m₀ words₀ m words : List ℕ} (A : Draining allowed m₀ words₀ m words left) where
   -- the drain is over where what is left moves nothing
-  over : ((x : Network) → Stands x (view m) (wordsIn words) → drainRun (setup x) left (shownRun x (view m) (wordsIn words)) ≡ shownRun x (view m) (wordsIn words))
-      → Drained allowed m₀ words₀ m words
+  over : ((x : Network) → Stands x (view m) (wordsIn words) →
+      drainRun (setup x) left (shownRun x (view m) (wordsIn words)) ≡ shownRun x (view m) (wordsIn words)) → Drained allowed m₀ words₀ m words
   over h = record {
     sized = A .ready .sized;
     words-sized = A .ready .words-sized;
@@ -73,7 +73,12 @@ module _ {allowed left : ℕ} {m₀ words₀ m words : List ℕ} (A : Draining a
       draining-goes a e h = record {
         began = A .began;
         few = A .few;
-        ready = record { sized = B .sized; words-sized = M .words-sized; network = A .ready .network; stands = stands-on (A .ready .network) (A .ready .stands) };
+        ready = record {
+          sized = B .sized;
+          words-sized = M .words-sized;
+          network = A .ready .network;
+          stands = stands-on (A .ready .network) (A .ready .stands);
+        };
         fixed = ap (λ (v : View). v .fixed) (B .holds) ∙ M .moved (A .ready .network) (A .ready .stands) .fixed ∙ A .fixed;
         stands = λ x S. stands-on x (A .stands x S);
         drains = λ x S. A .drains x S ∙ rw (B .holds) (round-drains (moved-round x (A .stands x S)) (a .tells x (wordsIn words) (A .stands x S) ∙ e) left h);

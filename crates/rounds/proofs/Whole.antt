@@ -43,7 +43,12 @@ pub record Risen (m₀ m : List ℕ) (k level : ℕ) : Type 0 where
   pub moves : Moves (rowsUp 3 level (2 ^ view m₀ .fixed .k)) m₀ m
 
 pub risen-begins : {m : List ℕ} {k : ℕ} → Ready m → k ≡ view m .fixed .k → Risen m m k 0
-risen-begins {m} {k} R e = record { ready = R; top = e; inside = omega arith; moves = record { sized = R .sized; moved = λ x words S. up-none 3 (2 ^ view m .fixed .k) } }
+risen-begins {m} {k} R e = record {
+  ready = R;
+  top = e;
+  inside = omega arith;
+  moves = record { sized = R .sized; moved = λ x words S. up-none 3 (2 ^ view m .fixed .k) };
+}
 
 module _ {m₀ m : List ℕ} {k level : ℕ} (A : Risen m₀ m k level) where
   risen-fit : AllFit (view m₀ .fixed .k) (rowsUp 3 level (2 ^ view m₀ .fixed .k))
@@ -62,8 +67,10 @@ module _ {m₀ m : List ℕ} {k level : ℕ} (A : Risen m₀ m k level) where
     inside = omega arith;
     moves = record {
       sized = M .sized;
-      moved = λ x words S. up-onward 3 level (2 ^ view m₀ .fixed .k) (A .moves .moved x words S) (
-          subst (λ k. Moved x (row 3 (level + 1) (2 ^ k)) (view m) words (view m′) words) (moves-same (A .moves) (A .ready)) (M .moved x words (moves-stand (A .moves) risen-fit x words S)));
+      moved = λ x words S.
+          let next = M .moved x words (moves-stand (A .moves) risen-fit x words S) in
+          up-onward 3 level (2 ^ view m₀ .fixed .k) (A .moves .moved x words S)
+          (subst (λ k. Moved x (row 3 (level + 1) (2 ^ k)) (view m) words (view m′) words) (moves-same (A .moves) (A .ready)) next);
     };
   }
 
@@ -120,7 +127,12 @@ module _ (events : ℕ → List Event) (fit : (k : ℕ) → 0 < k → AllFit k (
   going-onward : {es : List Event} {m₀ words₀ m words m′ words′ : List ℕ} → Going es m₀ words₀ m words → MovesWith (events (view m .fixed .k)) m words m′ words′
       → Going (es ++ events (view m₀ .fixed .k)) m₀ words₀ m′ words′
   going-onward {m} {words} {m′} {words′} A M = record {
-    ready = record { sized = M .sized; words-sized = M .words-sized; network = A .ready .network; stands = with-stand M (A .ready .network) (A .ready .stands) };
+    ready = record {
+      sized = M .sized;
+      words-sized = M .words-sized;
+      network = A .ready .network;
+      stands = with-stand M (A .ready .network) (A .ready .stands);
+    };
     same = ap (λ (f : Fixed). f .k) (M .moved (A .ready .network) (A .ready .stands) .fixed) ∙ A .same;
     stands = λ x S. with-stand M x (A .stands x S);
     moves = record {

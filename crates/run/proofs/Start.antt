@@ -9,9 +9,9 @@ use Rattle.operation.specs.declared.Words.{Words}
 use Rattle.machine.specs.Run.{runActs}
 use Rattle.machine.specs.Order.{atStart}
 use Rattle.machine.specs.Sound.{Sound}
-use Rattle.view.specs.View.{View}
+use Rattle.view.specs.View.{View, operationIn}
 use Rattle.shown.specs.Network.{Network, setup}
-use Rattle.shown.specs.Shown.{operationIn, shown}
+use Rattle.shown.specs.Shown.{shown}
 use Rattle.shown.specs.Reached.{Stands, shownRun, AtStart}
 use Rattle.shown.proofs.Start.{start-shows}
 use Rattle.shown.proofs.Reaching.{start-stands, stands-sound}

@@ -115,17 +115,24 @@ module _ (x : Network) (v : View) where
   tags-replaced zero p l h = absurd (omega arith)
   tags-replaced (suc s) p l h = tags-updated (suc s) p l
 
-  -- what the machine sees of tables of tags, one of them replaced
-  pub messages-updated : (f : ℕ → ℕ → List ℕ) (s p : ℕ) (l : List ℕ) →
-      _≡_ {A = ℕ → ℕ → List (Message (setup x))} (λ i j. map (messageOf x v) (update2 f s p l i j)) (update2 (λ i j. map (messageOf x v) (f i j)) s p (map (messageOf x v) l))
+  -- what the machine sees of tables of tags
+  abbrev pub messagesIn : (ℕ → ℕ → List ℕ) → ℕ → ℕ → List (Message (setup x))
+  messagesIn f i j = map (messageOf x v) (f i j)
+
+  abbrev pub recordsIn : (ℕ → ℕ → List Pair) → ℕ → ℕ → List (WaitRecord (setup x))
+  recordsIn f i j = map (recordOf x v) (f i j)
+
+  abbrev pub repliesIn : (ℕ → ℕ → List ℕ) → ℕ → ℕ → List (Reply (setup x))
+  repliesIn f i j = map (replyOf x v) (f i j)
+
+  -- and with one of them replaced
+  pub messages-updated : (f : ℕ → ℕ → List ℕ) (s p : ℕ) (l : List ℕ) → messagesIn (update2 f s p l) ≡ update2 (messagesIn f) s p (map (messageOf x v) l)
   messages-updated = update2-map (map (messageOf x v))
 
-  pub records-updated : (f : ℕ → ℕ → List Pair) (s p : ℕ) (l : List Pair) →
-      _≡_ {A = ℕ → ℕ → List (WaitRecord (setup x))} (λ i j. map (recordOf x v) (update2 f s p l i j)) (update2 (λ i j. map (recordOf x v) (f i j)) s p (map (recordOf x v) l))
+  pub records-updated : (f : ℕ → ℕ → List Pair) (s p : ℕ) (l : List Pair) → recordsIn (update2 f s p l) ≡ update2 (recordsIn f) s p (map (recordOf x v) l)
   records-updated = update2-map (map (recordOf x v))
 
-  pub replies-updated : (f : ℕ → ℕ → List ℕ) (s p : ℕ) (l : List ℕ) →
-      _≡_ {A = ℕ → ℕ → List (Reply (setup x))} (λ i j. map (replyOf x v) (update2 f s p l i j)) (update2 (λ i j. map (replyOf x v) (f i j)) s p (map (replyOf x v) l))
+  pub replies-updated : (f : ℕ → ℕ → List ℕ) (s p : ℕ) (l : List ℕ) → repliesIn (update2 f s p l) ≡ update2 (repliesIn f) s p (map (replyOf x v) l)
   replies-updated = update2-map (map (replyOf x v))
 
   -- a tag that stands in no reply queue comes to the end of one, with a value

@@ -18,13 +18,17 @@ use Rattle.shown.specs.Shown.{shown}
 use Rattle.shown.specs.Reached.{Stands, shownRun, Moved}
 use Rattle.shown.proofs.Reaching.{moves-few, stands-lawful}
 
+-- a run after one round more
+abbrev roundMore : (S : Setup) → Ran S → Ran S
+roundMore S r = record { state = runEvents S (round (S .k) (S .N)) (r .state); rounds = suc (r .rounds) }
+
 -- "The rounds counted are the rounds run": none is taken back
 drain-counts : (S : Setup) (n : ℕ) (r : Ran S) → r .rounds ≤ drainRun S n r .rounds
 unfolding drainRun
 drain-counts S zero r = omega arith
 drain-counts S (suc n) r = test-cases
-    (λ b. let after : Ran S = elim b [ true ↦ r | false ↦ drainRun S n (record { state = runEvents S (round (S .k) (S .N)) (r .state); rounds = suc (r .rounds) }) ] in r .rounds ≤ after .rounds)
-    (allAnswered S (r .state)) (λ _. omega arith) (λ _. omega (arith, drain-counts S n (record { state = runEvents S (round (S .k) (S .N)) (r .state); rounds = suc (r .rounds) })))
+    (λ b. let after : Ran S = elim b [ true ↦ r | false ↦ drainRun S n (roundMore S r) ] in r .rounds ≤ after .rounds)
+    (allAnswered S (r .state)) (λ _. omega arith) (λ _. omega (arith, drain-counts S n (roundMore S r)))
 
 module _ (x : Network) (v : View) (words : ℕ → ℕ) where
   -- "or its allowance is spent"
@@ -43,7 +47,7 @@ module _ {x : Network} {v : View} {words : ℕ → ℕ} where
   round-stands S = record { fits = S .fits; reached = S .reached }
 
   module _ {v₁ : View} {words₁ : ℕ → ℕ} (g : Moved x (round (x .k) (setup x .N)) v words v₁ words₁) where
-    round-shown : shownRun x (withRound v₁) words₁ ≡ record { state = runEvents (setup x) (round (x .k) (setup x .N)) (shown x v words); rounds = suc (v .rounds) }
+    round-shown : shownRun x (withRound v₁) words₁ ≡ roundMore (setup x) (shownRun x v words)
     unfolding shown
     round-shown = λ i. record { state = g .shows i; rounds = suc (g .rounds i) }
 
@@ -56,7 +60,8 @@ module _ {x : Network} {v : View} {words : ℕ → ℕ} where
   -- the rounds of a drain are few, so one more can be counted wherever it has come to
   pub drain-few : Stands x v words → (n : ℕ) → drainRun (setup x) n (shownRun x v words) .rounds ≤ v .rounds + 2560
   drain-few S n =
-      rw (S .reached .reached) (omega (arith, drain-from (setup x) (stands-lawful S) (S .reached .from) (S .reached .events) (S .reached .named) n (v .rounds), moves-few (S .fits .ranges)))
+      let R = S .reached in
+      rw (R .reached) (omega (arith, drain-from (setup x) (stands-lawful S) (R .from) (R .events) (R .named) n (v .rounds), moves-few (S .fits .ranges)))
 
   pub rounds-few : Stands x v words → (n m : ℕ) (v₁ : View) (words₁ : ℕ → ℕ) →
       drainRun (setup x) n (shownRun x v words) ≡ drainRun (setup x) m (shownRun x v₁ words₁) → v₁ .rounds ≤ v .rounds + 2560

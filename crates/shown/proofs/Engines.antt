@@ -20,25 +20,28 @@ tags-within (suc n) t = cons {x = t} (omega arith, omega arith) (all-map (λ u h
 
 module _ (x : Network) (e : ℕ) where
   -- ---- of n tags from t on
-  first-from : (n t : ℕ) → t ≤ firstFrom (x .engineOf) e n t
+  abbrev first : ℕ → ℕ → ℕ
+  first n t = firstFrom (x .engineOf) e n t
+
+  first-from : (n t : ℕ) → t ≤ first n t
   unfolding firstFrom
   first-from zero t = omega arith
   first-from (suc n) t =
-      test-cases (λ b. t ≤ choose b t (firstFrom (x .engineOf) e n (suc t))) (eqb (x .engineOf t) e) (λ _. omega arith) (λ _. omega (arith, first-from n (suc t)))
+      test-cases (λ b. t ≤ choose b t (first n (suc t))) (eqb (x .engineOf t) e) (λ _. omega arith) (λ _. omega (arith, first-from n (suc t)))
 
-  first-within : (n t : ℕ) → firstFrom (x .engineOf) e n t ≤ t + n
+  first-within : (n t : ℕ) → first n t ≤ t + n
   unfolding firstFrom
   first-within zero t = omega arith
   first-within (suc n) t =
-      test-cases (λ b. choose b t (firstFrom (x .engineOf) e n (suc t)) ≤ t + suc n) (eqb (x .engineOf t) e) (λ _. omega arith) (λ _. omega (arith, first-within n (suc t)))
+      test-cases (λ b. choose b t (first n (suc t)) ≤ t + suc n) (eqb (x .engineOf t) e) (λ _. omega arith) (λ _. omega (arith, first-within n (suc t)))
 
-  first-own : (n t : ℕ) → firstFrom (x .engineOf) e n t < t + n → x .engineOf (firstFrom (x .engineOf) e n t) ≡ e
+  first-own : (n t : ℕ) → first n t < t + n → x .engineOf (first n t) ≡ e
   unfolding firstFrom
   first-own zero t h = absurd (omega arith)
   first-own (suc n) t h = go (eqb (x .engineOf t) e) refl h (first-own n (suc t))
     where
-      go : (b : Bool) → eqb (x .engineOf t) e ≡ b → choose b t (firstFrom (x .engineOf) e n (suc t)) < t + suc n
-          → (firstFrom (x .engineOf) e n (suc t) < suc t + n → x .engineOf (firstFrom (x .engineOf) e n (suc t)) ≡ e) → x .engineOf (choose b t (firstFrom (x .engineOf) e n (suc t))) ≡ e
+      go : (b : Bool) → eqb (x .engineOf t) e ≡ b → choose b t (first n (suc t)) < t + suc n
+          → (first n (suc t) < suc t + n → x .engineOf (first n (suc t)) ≡ e) → x .engineOf (choose b t (first n (suc t))) ≡ e
       go true q h f = eqb-true _ _ q
       go false q h f = f (omega arith)
 
@@ -78,4 +81,5 @@ module _ (x : Network) (e : ℕ) where
   -- so a queue that has the next request alone stands for all from t on
   pub next-unissued : (t : ℕ) → unissued x e (choose (ltb (nextOf x e t) (x .R)) (nextOf x e t ∷ []) []) ≡ ofEngine x e t
   next-unissued t =
-      ltb-cases (λ b. unissued x e (choose b (nextOf x e t ∷ []) []) ≡ ofEngine x e t) (nextOf x e t) (x .R) (λ h. sym (next-some t h)) (λ h. sym (next-none t h))
+      ltb-cases (λ b. unissued x e (choose b (nextOf x e t ∷ []) []) ≡ ofEngine x e t) (nextOf x e t) (x .R)
+      (λ h. sym (next-some t h)) (λ h. sym (next-none t h))

@@ -15,7 +15,7 @@ use Rattle.lists.proofs.Counts.{same-yes, same-no, count-append}
 use Rattle.lists.proofs.Maps.{count-map}
 use Rattle.wiring.specs.Wiring.{positionOn}
 use Rattle.view.specs.View.{View, withRequests}
-use Rattle.machine.specs.Setup.{Reply, place}
+use Rattle.machine.specs.Setup.{place}
 use Rattle.machine.specs.Arrival.{arrive}
 use Rattle.machine.specs.Order.{Where, requested, waiting, replying, answered}
 use Rattle.machine.specs.Steps.{sent, nodeAt, forwardStep}
@@ -24,6 +24,7 @@ use Rattle.shown.specs.Shown.{unissued, messageOf, recordOf, replyOf, an
 use Rattle.shown.specs.Landing.{Came, cameRefused, nodeOf, arrivalOf, mergesAfter, withNode, Landed}
 use Rattle.shown.specs.Reached.{Stands}
 use Rattle.shown.proofs.Apart.{tagTimes, other-kind, request-elsewhere, oldest-requested}
+use Rattle.shown.proofs.Carried.{messagesIn, recordsIn, repliesIn}
 use Rattle.shown.proofs.Carried.{state-eq, messages-same, records-same, replies-same, answers-same, tagsIn, tags-updated}
 use Rattle.shown.proofs.Reaching.{stands-apart}
 use Rattle.shown.proofs.Arrivals.{arrive-full, refused-rests, landed-sends}
@@ -103,7 +104,8 @@ module _ {x : Network} {v : View} {words : ℕ → ℕ} (S : Stands x v words) (
         (rw (length-map (v .requests (suc s) to) (messageOf x v)) h) (rw (length-map (v .waits (suc s) to) (recordOf x v)) g))
 
     module _ {v′ : View} {came : Came} (L : Landed v t (suc s) to v′ came) where
-      shown-arrives : arrive (setup x) (nodeAt (setup x) (shown x v words) (suc s) to) (messageOf x v t) ≡ arrivalOf x came (nodeOf x v′ (v′ .requests (suc s) to) (v′ .waits (suc s) to))
+      shown-arrives : arrive (setup x) (nodeAt (setup x) (shown x v words) (suc s) to) (messageOf x v t) ≡
+          arrivalOf x came (nodeOf x v′ (v′ .requests (suc s) to) (v′ .waits (suc s) to))
       unfolding shown
       shown-arrives = L .arrives x (sym (S .fits .q-is)) (sym (S .fits .w-is))
 
@@ -125,14 +127,14 @@ module _ {x : Network} {v : View} {words : ℕ → ℕ} (S : Stands x v words) (
           more : tagTimes x v u (requested s p) ≡ same t u + count (λ (w : ℕ). w) u rest
           more = ap (count (λ (w : ℕ). w) u) is
 
-      waits-sent : (λ (i j : ℕ). map (recordOf x v′) (v′ .waits i j)) ≡ update2 (λ (i j : ℕ). map (recordOf x v) (v .waits i j)) (suc s) to (map (recordOf x v′) (v′ .waits (suc s) to))
+      waits-sent : recordsIn x v′ (v′ .waits) ≡ update2 (recordsIn x v (v .waits)) (suc s) to (map (recordOf x v′) (v′ .waits (suc s) to))
       waits-sent =
-          update2-unique (λ (i j : ℕ). map (recordOf x v) (v .waits i j)) (λ (i j : ℕ). map (recordOf x v′) (v′ .waits i j)) (suc s) to (map (recordOf x v′) (v′ .waits (suc s) to)) refl
+          update2-unique (recordsIn x v (v .waits)) (recordsIn x v′ (v′ .waits)) (suc s) to (map (recordOf x v′) (v′ .waits (suc s) to)) refl
           (λ i j n. ap (λ (y : View). map (recordOf x v′) (y .waits i j)) (L .changes)
           ∙ ap (map (recordOf x v′)) (update2-other (v .waits) (suc s) to _ i j n)
           ∙ records-same x v v′ (v .waits i j) (kept (waiting i j) (other-kind _ _ (λ e. omega arith)) (other-kind _ _ (λ e. omega arith))))
 
-      replies-stay : _≡_ {A = ℕ → ℕ → List (Reply (setup x))} (λ i j. map (replyOf x v′) (v′ .replies i j)) (λ i j. map (replyOf x v) (v .replies i j))
+      replies-stay : repliesIn x v′ (v′ .replies) ≡ repliesIn x v (v .replies)
       replies-stay = fun-ext (λ i. fun-ext (λ j. ap (λ (y : View). map (replyOf x v′) (y .replies i j)) (L .changes)
           ∙ replies-same x v v′ (v .replies i j) (kept (replying i j) (other-kind _ _ (λ e. omega arith)) (other-kind _ _ (λ e. omega arith)))))
 
@@ -149,10 +151,10 @@ module _ {x : Network} {v : View} {words : ℕ → ℕ} (S : Stands x v words) (
             same-in zero = refl
             same-in (suc s) = refl
 
-        requests-sent : (λ (i j : ℕ). map (messageOf x v′) (tagsAt x (withRequests v′ s p l) i j)) ≡
-            update2 (update2 (λ (i j : ℕ). map (messageOf x v) (tagsAt x v i j)) s p (map (messageOf x v) rest)) (suc s) to (map (messageOf x v′) (v′ .requests (suc s) to))
+        requests-sent : messagesIn x v′ (tagsAt x (withRequests v′ s p l)) ≡
+            update2 (update2 (messagesIn x v (tagsAt x v)) s p (map (messageOf x v) rest)) (suc s) to (map (messageOf x v′) (v′ .requests (suc s) to))
         requests-sent =
-            update2-two (λ (i j : ℕ). map (messageOf x v) (tagsAt x v i j)) (λ (i j : ℕ). map (messageOf x v′) (tagsAt x (withRequests v′ s p l) i j))
+            update2-two (messagesIn x v (tagsAt x v)) (messagesIn x v′ (tagsAt x (withRequests v′ s p l)))
             s p (map (messageOf x v) rest) (suc s) to (map (messageOf x v′) (v′ .requests (suc s) to))
             (ap (map (messageOf x v′)) (update2-other (v′ .requests) s p l (suc s) to (λ e. omega (arith, e .0))))
             (ap (λ (f : ℕ → ℕ → List ℕ). map (messageOf x v′) (f s p)) tags-left
@@ -163,7 +165,8 @@ module _ {x : Network} {v : View} {words : ℕ → ℕ} (S : Stands x v words) (
             ∙ messages-same x v v′ (landed-fixed L) (tagsAt x v i j) (kept (requested i j) (request-elsewhere i j s p n) (request-elsewhere i j (suc s) to m)))
 
         shown-sent : shown x (withRequests v′ s p l) words ≡
-            sent (setup x) (shown x v words) s p (map (messageOf x v) rest) to (nodeOf x v′ (v′ .requests (suc s) to) (v′ .waits (suc s) to)) (mergesAfter came (v .merges))
+            sent (setup x) (shown x v words) s p (map (messageOf x v) rest) to
+            (nodeOf x v′ (v′ .requests (suc s) to) (v′ .waits (suc s) to)) (mergesAfter came (v .merges))
         unfolding shown
         shown-sent = state-eq _ _ requests-sent waits-sent replies-stay refl
             (ap (λ (y : View). y .order) (L .changes)) answers-stay (ap (λ (y : View). y .accesses) (L .changes)) (ap (λ (y : View). y .merges) (L .changes))

@@ -26,9 +26,12 @@ module _ {x : Network} {v : View} {words : ℕ → ℕ} (S : Stands x v words) (
   issue-engine = sym (stands-apart S .path t (requested 0 e) (oldest-requested x v 0 e all-tags) .1 ∙ stands-lawful S .place-engine t)
 
   -- the engine's next request, or none, stands for all behind t
-  next-left : unissued x e (choose (ltb (v .fixed .after t) (v .fixed .count)) (v .fixed .after t ∷ []) []) ≡ ofEngine x e (suc t)
+  abbrev next : List ℕ
+  next = choose (ltb (v .fixed .after t) (v .fixed .count)) (v .fixed .after t ∷ []) []
+
+  next-left : unissued x e next ≡ ofEngine x e (suc t)
   next-left = rw (S .fits .after-is t (forward-below S 0 e t _ all-tags), S .fits .count-is, issue-engine) (next-unissued x e (suc t))
 
   pub issue-shows : (to : ℕ) → to ≡ positionOn (v .fixed .path t) 1 → {v′ : View} {came : Came} → Landed v t 1 to v′ came → came ≢ cameRefused
-      → shown x (withRequests v′ 0 e (choose (ltb (v .fixed .after t) (v .fixed .count)) (v .fixed .after t ∷ []) [])) words ≡ issueStep (setup x) e (shown x v words)
+      → shown x (withRequests v′ 0 e next) words ≡ issueStep (setup x) e (shown x v words)
   issue-shows to at L c = landed-shows S 0 e t (ofEngine x e (suc t)) all-tags (S .fits .ranges .k-least) to at L _ next-left c

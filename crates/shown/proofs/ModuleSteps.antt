@@ -11,13 +11,13 @@ use Rattle.lists.proofs.Tables.{update2-ind}
 use Rattle.lists.proofs.Counts.{same-yes}
 use Rattle.operation.specs.Operation.{applied}
 use Rattle.operation.specs.declared.Words.{Words}
-use Rattle.view.specs.View.{View, withRequests, withReplies, withCarried, withOrder, withAccess}
+use Rattle.view.specs.View.{View, withRequests, withReplies, withCarried, withOrder, withAccess, operationIn, valued}
 use Rattle.machine.specs.Setup.{Message}
 use Rattle.machine.specs.Steps.{serveOldest, moduleStep}
 use Rattle.machine.specs.Order.{requested, waiting, replying}
 use Rattle.machine.specs.Sound.{Sound}
 use Rattle.shown.specs.Network.{Network, setup, Fits}
-use Rattle.shown.specs.Shown.{operationIn, valued, messageOf, replyOf, tagsAt, tagsFor, shown}
+use Rattle.shown.specs.Shown.{messageOf, replyOf, tagsAt, tagsFor, shown}
 use Rattle.shown.proofs.Apart.{Apart, tagTimes, tags-apart, other-kind, request-elsewhere, oldest-requested, unanswered}
 use Rattle.shown.proofs.Carried.{state-eq, tags-above, tags-replaced, messages-framed, messages-updated, records-framed, answers-kept, replies-pushed}
 use Rattle.shown.proofs.Expansion.{stands-tags}
@@ -50,7 +50,8 @@ module _ (x : Network) (v : View) (words : ℕ → ℕ) where
         (λ i j n. A .elsewhere t (requested (x .k) p) (requested i j) here (request-elsewhere i j (x .k) p n))
 
     pub module-shows : length (v .replies (x .k) p) < x .Q →
-        shown x (withRequests (withReplies (withCarried (withAccess (withOrder v (tagsFor (v .fixed .path) (v .waits) (x .k) t))) t (valued (v .carried t) (words (v .fixed .address t))))
+        shown x (withRequests (withReplies (withCarried (withAccess (withOrder v (tagsFor (v .fixed .path) (v .waits) (x .k) t)))
+        t (valued (v .carried t) (words (v .fixed .address t))))
         (x .k) p (v .replies (x .k) p ++ (t ∷ []))) (x .k) p rest)
         (update words (v .fixed .address t) (applied (operationIn (v .carried t)) (words (v .fixed .address t)))) ≡
         moduleStep (setup x) p (shown x v words)

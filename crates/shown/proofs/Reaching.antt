@@ -45,7 +45,7 @@ module _ {x : Network} where
 
   module _ {v : View} {words : ℕ → ℕ} where
     pub moved-stands : {es : List Event} {v′ : View} {words′ : ℕ → ℕ} → Stands x v words → AllFit (x .k) es → Moved x es v words v′ words′ → Stands x v′ words′
-    moved-stands {es} S f m = record { fits = subst (λ (f : Fixed). Fits x f) (sym (m .fixed)) (S .fits); reached = reached-events es f (m .shows) (S .reached) }
+    moved-stands {es} S f m = record { fits = subst (Fits x) (sym (m .fixed)) (S .fits); reached = reached-events es f (m .shows) (S .reached) }
 
     pub stands-lawful : Stands x v words → Lawful (setup x)
     stands-lawful S = ranges-lawful (S .fits .ranges)

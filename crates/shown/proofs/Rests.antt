@@ -57,21 +57,25 @@ module _ (x : Network) (v : View) (words : ℕ → ℕ) where
   rests-moves what level position fits h = step-named (x .k) what level fits
       (λ e. issue-moves what level position refl refl e (forward-none (setup x) (shown x v words) 0 position
       (shown-requests 0 position (eqb-true _ _ (rw (e, issue-level (x .k) what level e fits) at h)))))
-      (λ e. forward-moves what level position refl refl e (forward-none (setup x) (shown x v words) level position (shown-requests level position (eqb-true _ _ (rw e at h)))))
+      (λ e. forward-moves what level position refl refl e (forward-none (setup x) (shown x v words) level position
+      (shown-requests level position (eqb-true _ _ (rw e at h)))))
       (λ e. module-moves what level position refl refl e (module-none (setup x) (shown x v words) position
       (shown-requests (x .k) position (eqb-true _ _ (rw (e, module-level (x .k) what level e fits) at h)))))
       (λ e. let z : suc (level - 1) ≡ level = omega (arith, return-level (x .k) what level e fits .0) in
-      return-moves what level position refl refl e (return-none (setup x) (shown x v words) (level - 1) position (rw z (shown-replies level position (eqb-true _ _ (rw e at h))))))
+      return-moves what level position refl refl e (return-none (setup x) (shown x v words) (level - 1) position
+      (rw z (shown-replies level position (eqb-true _ _ (rw e at h))))))
       (λ e. collect-moves what level position refl refl e (collect-none (setup x) (shown x v words) position
       (shown-replies 0 position (eqb-true _ _ (rw (e, collect-level (x .k) what level e fits) at h)))))
 
 -- ---- positions that rest are passed over
-module _ {x : Network} {v v₁ : View} {words words₁ : ℕ → ℕ} (what level p : ℕ) (fits : levelFits (x .k) what level ≡ true) (moved : Moved x (row what level p) v words v₁ words₁) where
+module _ {x : Network} {v v₁ : View} {words words₁ : ℕ → ℕ} (what level p : ℕ) (fits : levelFits (x .k) what level ≡ true)
+    (moved : Moved x (row what level p) v words v₁ words₁) where
   row-past : (d : ℕ) → ((i : ℕ) → p ≤ i → i < p + d → restsAt v₁ what level i ≡ true) → Moved x (row what level (p + d)) v words v₁ words₁
   row-past zero h = let e : p + 0 ≡ p = omega arith in rw e moved
   row-past (suc d) h =
       let e : p + suc d ≡ p + d + 1 = omega arith in
-      rw e (row-onward what level (p + d) (row-past d (λ i l g. h i l (omega arith))) (rests-moves x v₁ words₁ what level (p + d) fits (h (p + d) (omega arith) (omega arith))))
+      let here = rests-moves x v₁ words₁ what level (p + d) fits (h (p + d) (omega arith) (omega arith)) in
+      rw e (row-onward what level (p + d) (row-past d (λ i l g. h i l (omega arith))) here)
 
   pub row-skip : (q : ℕ) → p ≤ q → ((i : ℕ) → p ≤ i → i < q → restsAt v₁ what level i ≡ true) → Moved x (row what level q) v words v₁ words₁
   row-skip q l h = let e : p + (q - p) ≡ q = omega arith in rw e at (row-past (q - p) (rw e h))

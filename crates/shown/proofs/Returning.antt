@@ -1,6 +1,7 @@
 -- The return on the view is the machine's.
 use Prim.Native.Nat.{ℕ, suc, _≤_, _<_}
 use mathlib.Core.Path.{_≡_, refl, ap, ap₂, _∙_}
+use mathlib.Core.Logic.{_≢_}
 use mathlib.Core.List.{List, [], _∷_, _++_, map}
 use native.Mathlib.Omega.{arith}
 use lib.ListN.{length, length-map}
@@ -17,14 +18,14 @@ use Rattle.lists.proofs.Maps.{foundMap, firstOf-map, map-append}
 use Rattle.operation.specs.Operation.{applied}
 use Rattle.operation.specs.declared.Words.{Words}
 use Rattle.wiring.specs.Wiring.{positionOn}
-use Rattle.view.specs.View.{View, withReplies, withWaits, withCarried}
+use Rattle.view.specs.View.{View, withReplies, withWaits, withCarried, operationIn, valued}
 use Rattle.machine.specs.Setup.{WaitRecord, Reply, place}
 use Rattle.machine.specs.Arrival.{oldestOf}
 use Rattle.machine.specs.Steps.{answered, returnOldest, returnStep}
-use Rattle.machine.specs.Order.{requested, waiting, replying}
+use Rattle.machine.specs.Order.{Where, requested, waiting, replying}
 use Rattle.machine.specs.Sound.{Sound}
 use Rattle.shown.specs.Network.{Network, setup, Fits}
-use Rattle.shown.specs.Shown.{operationIn, valued, recordOf, replyOf, tagsAt, shown, oldestPair}
+use Rattle.shown.specs.Shown.{recordOf, replyOf, tagsAt, shown, oldestPair}
 use Rattle.shown.proofs.Apart.{Apart, tagTimes, tags-apart, other-kind, wait-elsewhere, oldest-replying, pair-waiting, unanswered}
 use Rattle.shown.proofs.Carried.{state-eq, messages-framed, records-framed, records-updated, replies-updated, answers-kept, replies-pushed}
 
@@ -36,7 +37,8 @@ taken-pair t pairs {older} {r} {younger} is =
     let f : First (λ (r : Pair). eqb (r .first) t) pairs (found older r younger) = rw is at (firstOf-is (λ (r : Pair). eqb (r .first) t) pairs) in f .0
 
 module _ (x : Network) (v : View) (words : ℕ → ℕ) where
-  module _ (F : Fits x (v .fixed)) (S : Sound (setup x) (shown x v words)) (s p t : ℕ) (rest : List ℕ) (up : suc s ≤ x .k) (is : v .replies (suc s) p ≡ t ∷ rest) where
+  module _ (F : Fits x (v .fixed)) (S : Sound (setup x) (shown x v words)) (s p t : ℕ) (rest : List ℕ)
+      (up : suc s ≤ x .k) (is : v .replies (suc s) p ≡ t ∷ rest) where
     A : Apart x v
     A = tags-apart x v words (S .onePlace)
 
@@ -88,20 +90,25 @@ module _ (x : Network) (v : View) (words : ℕ → ℕ) where
           (omega (arith, same-yes (r .second), rw (count-append (λ (r : Pair). r .second) (r .second) older (r ∷ younger)) at z)))
           (λ i j n. A .elsewhere (r .second) (waiting (suc s) p) (waiting i j) here (wait-elsewhere i j (suc s) p n))
 
+      -- what the second tag carries once it is answered
+      abbrev c : Words
+      c = valued (v .carried (r .second)) (applied (operationIn (v .carried (r .second))) (v .carried t .first))
+
+      elsewhere : (w : Where (setup x)) → w ≢ waiting (suc s) p → tagTimes x v (r .second) w ≡ 0
+      elsewhere w n = A .elsewhere (r .second) (waiting (suc s) p) w here n
+
       pub return-splits : length (v .replies s to) < x .Q →
-          shown x (withWaits (withReplies (withCarried v (r .second) (valued (v .carried (r .second)) (applied (operationIn (v .carried (r .second))) (v .carried t .first))))
-          s to (v .replies s to ++ (r .second ∷ []))) (suc s) p (older ++ younger)) words ≡
+          shown x (withWaits (withReplies (withCarried v (r .second) c) s to (v .replies s to ++ (r .second ∷ []))) (suc s) p (older ++ younger)) words ≡
           returnStep (setup x) s p (shown x v words)
       unfolding shown answered
       return-splits room =
-          let c : Words = valued (v .carried (r .second)) (applied (operationIn (v .carried (r .second))) (v .carried t .first)) in
           rw (return-oldest, one, ← down, length-map (v .replies s to) (replyOf x v), lt-ltb _ _ room)
           (state-eq _ _
-          (messages-framed x v (r .second) c (tagsAt x v) (λ i j. A .elsewhere (r .second) (waiting (suc s) p) (requested i j) here (other-kind _ _ (λ e. omega arith))))
+          (messages-framed x v (r .second) c (tagsAt x v) (λ i j. elsewhere (requested i j) (other-kind _ _ (λ e. omega arith))))
           (records-framed x v (r .second) c (update2 (v .waits) (suc s) p (older ++ younger)) left
           ∙ records-updated x v (v .waits) (suc s) p (older ++ younger)
           ∙ ap (update2 (λ (i j : ℕ). map (recordOf x v) (v .waits i j)) (suc s) p) (map-append (recordOf x v) older younger))
-          (replies-pushed x v (r .second) c (λ i j. A .elsewhere (r .second) (waiting (suc s) p) (replying i j) here (other-kind _ _ (λ e. omega arith))) s to)
+          (replies-pushed x v (r .second) c (λ i j. elsewhere (replying i j) (other-kind _ _ (λ e. omega arith))) s to)
           refl refl
           (answers-kept x v (r .second) c (unanswered x v A (r .second) (waiting (suc s) p) here (other-kind _ _ (λ e. omega arith))))
           refl refl)

@@ -8,11 +8,11 @@ use lib.Dec.{eqb, ltb}
 use Rattle.lists.specs.Choice.{choose}
 use Rattle.lists.specs.Search.{All}
 use Rattle.event.specs.Event.{Event, levelFits}
-use Rattle.view.specs.View.{View}
+use Rattle.view.specs.View.{View, operationIn}
 use Rattle.machine.specs.State.{State, start}
 use Rattle.machine.specs.Run.{Ran, runEvents}
 use Rattle.shown.specs.Network.{Network, setup, nextOf, Fits}
-use Rattle.shown.specs.Shown.{operationIn, shown}
+use Rattle.shown.specs.Shown.{shown}
 
 -- a step has nothing to move: an issue's, a forward's or a module step's request queue is empty, a return's or a collect's reply queue
 abbrev pub restsAt : View → (what level position : ℕ) → Bool

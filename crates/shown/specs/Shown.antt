@@ -6,21 +6,11 @@ use lib.Dec.{eqb}
 use Rattle.lists.specs.Choice.{choose}
 use Rattle.lists.specs.Search.{Found, firstOf}
 use Rattle.lists.specs.Pair.{Pair}
-use Rattle.operation.specs.Operation.{operationOf}
-use Rattle.operation.specs.declared.Operation.{Operation}
-use Rattle.operation.specs.declared.Words.{Words}
 use Rattle.wiring.specs.Wiring.{positionOn}
-use Rattle.view.specs.View.{View}
+use Rattle.view.specs.View.{View, operationIn}
 use Rattle.machine.specs.Setup.{Message, WaitRecord, Reply}
 use Rattle.machine.specs.State.{State}
 use Rattle.shown.specs.Network.{Network, setup, ofEngine}
-
--- the operation that a tag carries; what it carries once it is answered with a value
-abbrev pub operationIn : Words → Operation
-operationIn c = operationOf (c .code) (c .first) (c .second)
-
-abbrev pub valued : Words → ℕ → Words
-valued c value = record { code = c .code; first = value; second = c .second }
 
 -- the engine's requests that are not issued: the one that its queue has, and all its later ones
 abbrev pub unissued : Network → ℕ → List ℕ → List ℕ

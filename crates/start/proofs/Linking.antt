@@ -20,7 +20,7 @@ use Rattle.shown.specs.Reached.{AtStart}
 use Rattle.shown.proofs.Engines.{next-within}
 use Rattle.store.specs.Layout.{size}
 use Rattle.store.specs.Memory.{view, Becomes}
-use Rattle.start.specs.Linked.{Empty, HasRequests, RequestsLoaded, Started, LinkedTo, firstIn}
+use Rattle.start.specs.Linked.{Empty, HasRequests, RequestsLoaded, Started, LinkedTo, firstIn, withLinked}
 
 -- the requests from t on are linked, and each engine has its first of them
 pub record Linked (x : Network) (v : View) (t : ℕ) : Type 0 where
@@ -94,9 +94,14 @@ module _ (x : Network) (v : View) (t : ℕ) (below : t < x .R) (so-far : Linked 
     first-is : firstIn v e ≡ nextOf x e (suc t)
     first-is = rw (so-far .count-is) (next-given (nextOf x e (suc t)) (x .R) (v .requests 0 e) (next-within x e (suc t) below) (so-far .first e))
 
-    linked-at : Linked x (withRequests (withFixed v (linked (v .fixed) t (firstIn v e))) 0 e (choose (ltb t (v .fixed .count)) (t ∷ []) [])) t
+    linked-at : Linked x (withLinked v t e) t
     linked-at = record {
-      loaded = record { ranges = so-far .loaded .ranges; address-is = so-far .loaded .address-is; path-is = so-far .loaded .path-is; asked = so-far .loaded .asked };
+      loaded = record {
+        ranges = so-far .loaded .ranges;
+        address-is = so-far .loaded .address-is;
+        path-is = so-far .loaded .path-is;
+        asked = so-far .loaded .asked;
+      };
       k-is = so-far .k-is;
       q-is = so-far .q-is;
       w-is = so-far .w-is;
@@ -121,10 +126,7 @@ module _ (x : Network) (v : View) (t : ℕ) (below : t < x .R) (so-far : Linked 
       no-rounds = so-far .no-rounds;
     }
 
-  linked-more :
-      Linked x
-      (withRequests (withFixed v (linked (v .fixed) t (firstIn v (positionOn (v .fixed .path t) 0)))) 0 (positionOn (v .fixed .path t) 0) (choose (ltb t (v .fixed .count)) (t ∷ []) []))
-      t
+  linked-more : Linked x (withLinked v t (positionOn (v .fixed .path t) 0)) t
   linked-more = linked-at (positionOn (v .fixed .path t) 0) engine-is
 
 -- ---- all are linked
@@ -162,7 +164,8 @@ pub record Linking (m₀ m : List ℕ) (count t : ℕ) : Type 0 where
   pub counted : view m .fixed .count ≡ count
   pub links : (x : Network) → Linked x (view m₀) count → Linked x (view m) t
 
-module _ (m : List ℕ) (k q w count : ℕ) (loaded : RequestsLoaded m k q w count) (m₀ : List ℕ) (shaping : Becomes m₀ (withFixed (view m) (shaped (view m .fixed) k q w count))) where
+module _ (m : List ℕ) (k q w count : ℕ) (loaded : RequestsLoaded m k q w count) (m₀ : List ℕ)
+    (shaping : Becomes m₀ (withFixed (view m) (shaped (view m .fixed) k q w count))) where
   pub linking-none : Linking m₀ m₀ count count
   linking-none = record {
     sized = shaping .sized;
@@ -206,5 +209,5 @@ module _ (v : View) (e : ℕ) {none : Bool} (told : none ≡ eqb (length (v .req
 
 pub link-stored : (v v′ v″ : View) (t e n : ℕ) → e ≡ positionOn (v .fixed .path t) 0 → n ≡ firstIn v e → v′ ≡ withFixed v (linked (v .fixed) t n) →
     v″ ≡ withRequests v′ 0 e (choose (ltb t (v′ .fixed .count)) (t ∷ []) []) →
-    v″ ≡ withRequests (withFixed v (linked (v .fixed) t (firstIn v (positionOn (v .fixed .path t) 0)))) 0 (positionOn (v .fixed .path t) 0) (choose (ltb t (v .fixed .count)) (t ∷ []) [])
+    v″ ≡ withLinked v t (positionOn (v .fixed .path t) 0)
 link-stored v v′ v″ t e n engine next after first = first ∙ rw (after, next, engine)

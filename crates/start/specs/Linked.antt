@@ -7,13 +7,12 @@ use lib.Dec.{eqb, ltb}
 use lib.ListN.{length, getD}
 use Rattle.lists.specs.Choice.{choose}
 use Rattle.wiring.specs.Wiring.{positionOn}
-use Rattle.machine.specs.Setup.{place}
-use Rattle.view.specs.View.{View, withFixed, withRequests, linked}
-use Rattle.shown.specs.Network.{Network, setup, Ranges}
-use Rattle.shown.specs.Shown.{operationIn}
-use Rattle.shown.specs.Reached.{AtStart}
+use Rattle.view.specs.View.{View, withFixed, withRequests, linked, operationIn}
 use Rattle.store.specs.Layout.{size}
 use Rattle.store.specs.Memory.{view}
+use Rattle.machine.specs.Setup.{place}
+use Rattle.shown.specs.Network.{Network, setup, Ranges}
+use Rattle.shown.specs.Reached.{AtStart}
 
 -- nothing is in the network, nothing is answered or counted
 pub record Empty (v : View) : Type 0 where
@@ -55,9 +54,11 @@ pub record Started (m : List ℕ) (k q w count : ℕ) (m′ : List ℕ) : Type 0
 abbrev pub firstIn : View → ℕ → ℕ
 firstIn v e = choose (eqb (length (v .requests 0 e)) 0) (v .fixed .count) (getD (v .requests 0 e) 0 0)
 
+-- the view with the request t of engine e linked before the engine's others
+abbrev pub withLinked : View → ℕ → ℕ → View
+withLinked v t e = withRequests (withFixed v (linked (v .fixed) t (firstIn v e))) 0 e (choose (ltb t (v .fixed .count)) (t ∷ []) [])
+
 -- the request t stands before its engine's others
 pub record LinkedTo (v : View) (t : ℕ) (m′ : List ℕ) : Type 0 where
   pub sized : length m′ ≡ size
-  pub links : view m′ ≡
-      withRequests (withFixed v (linked (v .fixed) t (firstIn v (positionOn (v .fixed .path t) 0)))) 0 (positionOn (v .fixed .path t) 0)
-      (choose (ltb t (v .fixed .count)) (t ∷ []) [])
+  pub links : view m′ ≡ withLinked v t (positionOn (v .fixed .path t) 0)

@@ -19,7 +19,7 @@ use Rattle.words.specs.Digits.{lengthIn, byteIn, Pushed}
 use Rattle.words.proofs.Digits.{digit-low}
 use Rattle.queue.specs.declared.Tags.{Tags}
 use Rattle.queue.specs.Queue.{tagsIn, pairsIn, tagsOf}
-use Rattle.view.specs.View.{withRequests, withReplies, withWaits}
+use Rattle.view.specs.View.{withRequests, withReplies, withWaits, withReply}
 use Rattle.store.specs.Layout.{size, atCount, atRequestLengths, atReplyLengths, atWaitLengths, atRequests, atReplies, atFirsts, atSeconds}
 use Rattle.store.specs.Memory.{gridAt, lengthsAt, requestsAt, buffersAt, fixedIn, view, Becomes, RowOf}
 use Rattle.store.proofs.Grid.{grid-here, grid-changed}
@@ -37,7 +37,8 @@ module _ (m : List ℕ) (level position : ℕ) (on : (level < 5) × (position < 
 
   pub request-none : eqb (lengthsAt atRequestLengths m level position) 0 ≡ eqb (length (view m .requests level position)) 0
   request-none =
-      sym (ap (λ (l : List ℕ). eqb (length l) 0) requests-read ∙ requests-none level (gridAt atRequests m level position) (lengthsAt atRequestLengths m level position))
+      sym (ap (λ (l : List ℕ). eqb (length l) 0) requests-read
+      ∙ requests-none level (gridAt atRequests m level position) (lengthsAt atRequestLengths m level position))
 
   requests-here : 0 < level → view m .requests level position ≡ tagsIn (gridAt atRequests m level position) (lengthsAt atRequestLengths m level position)
   requests-here a = requests-read ∙ requests-above a _ _
@@ -46,7 +47,8 @@ module _ (m : List ℕ) (level position : ℕ) (on : (level < 5) × (position < 
   unfolding view
   replies-here = grid-here _ (on .0) (on .1)
 
-  waits-here : view m .waits level position ≡ pairsIn (gridAt atFirsts m level position) (gridAt atSeconds m level position) (lengthsAt atWaitLengths m level position)
+  waits-here : view m .waits level position ≡
+      pairsIn (gridAt atFirsts m level position) (gridAt atSeconds m level position) (lengthsAt atWaitLengths m level position)
   unfolding view
   waits-here = grid-here _ (on .0) (on .1)
 
@@ -214,13 +216,15 @@ module _ (m : List ℕ) (fits : length m ≡ size) (level position : ℕ) (on : 
     pub requests-stored : (w v k n : ℕ) → k ≡ n → lengthIn v ≡ update (lengthIn (getD (set m requestAt w) requestRow 0)) position k →
         Becomes (set (set m requestAt w) requestRow v) (withRequests (view m) level position (tagsIn w n))
     requests-stored w v k n z e =
-        requests-changed (tags-stored asRequests atRequestLengths atRequests m level position (omega arith) on fits (requests-above a) _ (requests-here m level position on a) w v k n z e)
+        requests-changed (tags-stored asRequests atRequestLengths atRequests m level position (omega arith) on fits (requests-above a) _
+        (requests-here m level position on a) w v k n z e)
 
     pub request-popped : (v : ℕ) → 0 < length (view m .requests level position) →
         lengthIn v ≡ update (lengthIn (getD m requestRow 0)) position (lengthIn (getD m requestRow 0) position - 1) →
         Becomes (set m requestRow v) (withRequests (view m) level position (drop 1 (view m .requests level position)))
     request-popped v h e =
-        requests-changed (queue-popped asRequests atRequestLengths atRequests m level position (omega arith) on fits (requests-above a) _ (requests-here m level position on a) v h e)
+        requests-changed (queue-popped asRequests atRequestLengths atRequests m level position (omega arith) on fits (requests-above a) _
+        (requests-here m level position on a) v h e)
 
   pub reply-count-kept : (w : ℕ) → lengthIn (getD (set m replyAt w) replyRow 0) position ≡ length (view m .replies level position)
   reply-count-kept = count-kept asTags atReplyLengths atReplies m level position (omega arith) on fits (λ w n. refl) _ (replies-here m level position on)
@@ -229,17 +233,20 @@ module _ (m : List ℕ) (fits : length m ≡ size) (level position : ℕ) (on : 
       lengthIn v ≡ update (lengthIn (getD m replyRow 0)) position (lengthIn (getD m replyRow 0) position - 1) →
       Becomes (set m replyRow v) (withReplies (view m) level position (drop 1 (view m .replies level position)))
   reply-popped v h e =
-      replies-changed (queue-popped asTags atReplyLengths atReplies m level position (omega arith) on fits (λ w n. refl) _ (replies-here m level position on) v h e)
+      replies-changed (queue-popped asTags atReplyLengths atReplies m level position (omega arith) on fits (λ w n. refl) _
+      (replies-here m level position on) v h e)
 
   pub reply-pushed : (t w v : ℕ) → length (view m .replies level position) < 8 → Pushed (getD m replyAt 0) t w →
       lengthIn v ≡ update (lengthIn (getD (set m replyAt w) replyRow 0)) position (suc (lengthIn (getD (set m replyAt w) replyRow 0) position)) →
-      Becomes (set (set m replyAt w) replyRow v) (withReplies (view m) level position (view m .replies level position ++ (t ∷ [])))
+      Becomes (set (set m replyAt w) replyRow v) (withReply (view m) level position t)
   reply-pushed t w v h p e =
       let n = lengthIn (getD m replyRow 0) position in
       let k : lengthIn (getD m replyRow 0) position < 8 = omega (arith, replies-length m level position on) in
       let q : tagsIn w (suc n) ≡ view m .replies level position ++ (t ∷ []) =
-      down-push n (byteIn (getD m replyAt 0)) (byteIn w) t (p .lowest) (λ i l. p .above i (omega arith)) ∙ ap (λ (l : List ℕ). l ++ (t ∷ [])) (sym (replies-here m level position on)) in
-      replies-changed (rw q at (tags-stored asTags atReplyLengths atReplies m level position (omega arith) on fits (λ w n. refl) _ (replies-here m level position on) w v _ (suc n)
+      down-push n (byteIn (getD m replyAt 0)) (byteIn w) t (p .lowest) (λ i l. p .above i (omega arith))
+      ∙ ap (λ (l : List ℕ). l ++ (t ∷ [])) (sym (replies-here m level position on)) in
+      replies-changed (rw q at (tags-stored asTags atReplyLengths atReplies m level position (omega arith) on fits (λ w n. refl) _
+      (replies-here m level position on) w v _ (suc n)
       (ap suc (reply-count-kept w ∙ replies-length m level position on)) e))
 
 -- ---- the engine's next request, at level 0
@@ -270,19 +277,22 @@ module _ (m : List ℕ) (e : ℕ) (b : e < 16) where
 
       pub next-again : nextLength ≢ 0 → Becomes (set m (atRequests + e) n) (withRequests (view m) 0 e next)
       next-again z =
-          requests-changed (rw (zero-add e) at (queue-replaced asRequests atRequestLengths atRequests m 0 e (omega arith) (omega arith) fits n next (next-alone nextLength z)))
+          requests-changed (rw (zero-add e) at
+          (queue-replaced asRequests atRequestLengths atRequests m 0 e (omega arith) (omega arith) fits n next (next-alone nextLength z)))
 
       pub next-first : (v : ℕ) → lengthIn v ≡ update (lengthIn (getD m atRequestLengths 0)) e (suc nextLength) →
           Becomes (set (set m (atRequests + e) n) atRequestLengths v) (withRequests (view m) 0 e next)
       next-first v f =
           requests-changed (rw (zero-add e) at
-          (queue-stored asRequests atRequestLengths atRequests m 0 e (omega arith) (omega arith) fits n v (suc nextLength) next f (next-alone (suc nextLength) (omega arith))))
+          (queue-stored asRequests atRequestLengths atRequests m 0 e (omega arith) (omega arith) fits n v (suc nextLength) next f
+          (next-alone (suc nextLength) (omega arith))))
 
     pub next-none : (v : ℕ) → getD m atCount 0 ≤ n → lengthIn v ≡ update (lengthIn (getD m atRequestLengths 0)) e 0 →
         Becomes (set m atRequestLengths v) (withRequests (view m) 0 e next)
     unfolding view fixedIn
     next-none v h f =
-        requests-changed (queue-cut asRequests atRequestLengths atRequests m 0 e (omega arith) (omega arith) fits v 0 next f (sym (choose-no _ _ (le-ltb n (getD m atCount 0) h))))
+        requests-changed (queue-cut asRequests atRequestLengths atRequests m 0 e (omega arith) (omega arith) fits v 0 next f
+        (sym (choose-no _ _ (le-ltb n (getD m atCount 0) h))))
 
 -- ---- a wait buffer: two words, and their length
 
@@ -327,11 +337,13 @@ module _ (m : List ℕ) (fits : length m ≡ size) (level position : ℕ) (on : 
 
     buffers-changed : buffersAt atWaitLengths atFirsts atSeconds m₃ ≡ update2 (buffersAt atWaitLengths atFirsts atSeconds m) level position (pairsIn f s n)
     buffers-changed =
-        grid-changed _ _ level position (pairsIn f s n) (on .0) (on .1) (rw (first-here, second-here, length-here atWaitLengths m m₃ level position n length-changed))
+        grid-changed _ _ level position (pairsIn f s n) (on .0) (on .1)
+        (rw (first-here, second-here, length-here atWaitLengths m m₃ level position n length-changed))
         (λ s p a′ b′ d. rw (
           away (atFirsts + (s * 16 + p)) (λ z. d (omega arith)) (λ z. omega arith) (λ z. omega arith),
           away (atSeconds + (s * 16 + p)) (λ z. omega arith) (λ z. d (omega arith)) (λ z. omega arith),
-          length-other atWaitLengths m m₃ level position n length-changed s p (λ y. away (atWaitLengths + s) (λ z. omega arith) (λ z. omega arith) (λ z. y (omega arith))) d,
+          length-other atWaitLengths m m₃ level position n length-changed s p
+              (λ y. away (atWaitLengths + s) (λ z. omega arith) (λ z. omega arith) (λ z. y (omega arith))) d,
         ))
 
     pub waits-stored : Becomes m₃ (withWaits (view m) level position (pairsIn f s n))

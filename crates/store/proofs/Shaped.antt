@@ -62,7 +62,8 @@ module _ (m : List ℕ) (fits : length m ≡ size) (k q w count a b c d : ℕ) (
   abbrev m′ : List ℕ
   m′ = sets m 0 first
 
-  module _ (la : LowBits (min 64 (count - 0)) a) (lb : LowBits (min 64 (count - 64)) b) (lc : LowBits (min 64 (count - 128)) c) (ld : LowBits (min 64 (count - 192)) d) where
+  module _ (la : LowBits (min 64 (count - 0)) a) (lb : LowBits (min 64 (count - 64)) b)
+      (lc : LowBits (min 64 (count - 128)) c) (ld : LowBits (min 64 (count - 192)) d) where
     every : (t j : ℕ) → t < 256 → t / 64 ≡ j → eqb (bitIn (getD (first ++ drop 8 m) (4 + j) 0) (t % 64)) 1 ≡ ltb t count
     every t zero l e = mark-below count 0 a t la e
     every t (suc zero) l e = mark-below count 1 b t lb e

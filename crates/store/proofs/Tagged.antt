@@ -13,7 +13,7 @@ use Rattle.operation.specs.declared.Operation.{Operation}
 use Rattle.operation.specs.declared.Words.{Words}
 use Rattle.operation.specs.Operation.{wordsOf}
 use Rattle.operation.proofs.Laws.{code-byte}
-use Rattle.view.specs.View.{Fixed, withFixed, withCarried, withRequest, linked}
+use Rattle.view.specs.View.{valued, Fixed, withFixed, withCarried, withRequest, linked}
 use Rattle.store.specs.Layout.{size, atK, atQ, atW, atCount, atEvery, atHeads, atFirstOperands, atSecondOperands}
 use Rattle.store.specs.Memory.{columnAt, codeOf, addressOf, pathOf, afterOf, fixedIn, carriedIn, view, Becomes}
 use Rattle.store.proofs.Columns.{tags-changed}
@@ -134,10 +134,12 @@ module _ (m : List ℕ) (fits : length m ≡ size) (t : ℕ) (l : t < 256) where
             getD-set-other m₂ (atSecondOperands + t) (atHeads + t) s 0 (omega arith) ∙ getD-set-other m₁ (atFirstOperands + t) (atHeads + t) f 0 (omega arith)
             ∙ getD-set-same m (atHeads + t) h 0 (omega arith);
         first =
-            getD-set-other m₂ (atSecondOperands + t) (atFirstOperands + t) s 0 (omega arith) ∙ getD-set-same m₁ (atFirstOperands + t) f 0 (rw length-set (omega arith));
+            getD-set-other m₂ (atSecondOperands + t) (atFirstOperands + t) s 0 (omega arith)
+            ∙ getD-set-same m₁ (atFirstOperands + t) f 0 (rw length-set (omega arith));
         second = getD-set-same m₂ (atSecondOperands + t) s 0 (rw (length-set, length-set) (omega arith));
         away =
-            λ k a b c. getD-set-other m₂ (atSecondOperands + t) k s 0 c ∙ getD-set-other m₁ (atFirstOperands + t) k f 0 b ∙ getD-set-other m (atHeads + t) k h 0 a;
+            λ k a b c. getD-set-other m₂ (atSecondOperands + t) k s 0 c ∙ getD-set-other m₁ (atFirstOperands + t) k f 0 b
+            ∙ getD-set-other m (atHeads + t) k h 0 a;
       }
 
   head-written : (h : ℕ) → Written m (set m (atHeads + t) h) t h (getD m (atFirstOperands + t) 0) (getD m (atSecondOperands + t) 0)
@@ -173,7 +175,11 @@ module _ (m : List ℕ) (fits : length m ≡ size) (t : ℕ) (l : t < 256) where
   after-idle : update (view m .fixed .after) t (afterOf (headAt m t l)) ≡ view m .fixed .after
   after-idle = rw (← after-here m t l) (update-idle (view m .fixed .after) t)
 
-  carried-idle : update (view m .carried) t (record { code = codeOf (headAt m t l); first = getD m (atFirstOperands + t) 0; second = getD m (atSecondOperands + t) 0 }) ≡ view m .carried
+  -- what the tag's words are
+  abbrev words-here : Words
+  words-here = record { code = codeOf (headAt m t l); first = getD m (atFirstOperands + t) 0; second = getD m (atSecondOperands + t) 0 }
+
+  carried-idle : update (view m .carried) t words-here ≡ view m .carried
   carried-idle = rw (← carried-here m t l) (update-idle (view m .carried) t)
 
   pub after-set : (n h : ℕ) → n ≤ 256 → h ≡ headAt m t l / 2 ^ 36 * 2 ^ 36 + 2 ^ 16 * n + headAt m t l % 2 ^ 16 →
@@ -183,7 +189,7 @@ module _ (m : List ℕ) (fits : length m ≡ size) (t : ℕ) (l : t < 256) where
       rw (address-idle, path-idle, carried-idle) at (tag-written m _ t h _ _ l (head-written h) head)
 
   pub value-set : (value : ℕ) →
-      Becomes (set m (atFirstOperands + t) value) (withCarried (view m) t (record { code = view m .carried t .code; first = value; second = view m .carried t .second }))
+      Becomes (set m (atFirstOperands + t) value) (withCarried (view m) t (valued (view m .carried t) value))
   value-set value =
       rw (address-idle, path-idle, after-idle, ← ap (λ (x : Words). x .code) (carried-here m t l), ← ap (λ (x : Words). x .second) (carried-here m t l)) at
       (tag-written m _ t _ value _ l (first-written value) (record { codeIs = refl; addressIs = refl; pathIs = refl; afterIs = refl }))
@@ -191,6 +197,7 @@ module _ (m : List ℕ) (fits : length m ≡ size) (t : ℕ) (l : t < 256) where
   pub operation-set : (f : Operation) (x : Words) (h : ℕ) → x ≡ wordsOf f → h ≡ headAt m t l / 256 * 256 + x .code →
       Becomes (three m t h (x .first) (x .second)) (withCarried (view m) t (wordsOf f))
   operation-set f x h e g =
-      let head : Head h (x .code) (addressOf (headAt m t l)) (pathOf (headAt m t l)) (afterOf (headAt m t l)) = rw g (head-coded (headAt m t l) (x .code) (code-below f x e)) in
+      let old = headAt m t l in
+      let head : Head h (x .code) (addressOf old) (pathOf old) (afterOf old) = rw g (head-coded old (x .code) (code-below f x e)) in
       subst (λ (y : Words). Becomes (three m t h (x .first) (x .second)) (withCarried (view m) t y)) e
       (rw (address-idle, path-idle, after-idle) at (tag-written m _ t h (x .first) (x .second) l (three-written h (x .first) (x .second)) head))

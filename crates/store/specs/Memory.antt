@@ -8,11 +8,11 @@ use lib.Dec.{eqb, ltb}
 use lib.ListN.{length, getD}
 use Rattle.lists.specs.Choice.{choose, both}
 use Rattle.lists.specs.Table.{listBelow}
-use Rattle.operation.specs.declared.Words.{Words}
-use Rattle.words.specs.Digits.{lengthIn, byteIn, bitIn}
 use Rattle.lists.specs.Pair.{Pair}
-use Rattle.view.specs.View.{Fixed, View}
+use Rattle.words.specs.Digits.{lengthIn, byteIn, bitIn}
+use Rattle.operation.specs.declared.Words.{Words}
 use Rattle.queue.specs.Queue.{tagsIn, pairsIn}
+use Rattle.view.specs.View.{Fixed, View}
 use Rattle.store.specs.Layout.{size, atK, atQ, atW, atCount, atEvery, atAnswered, atOrdered, atAccesses, atMerges, atRounds}
 use Rattle.store.specs.Layout.{atRequestLengths, atReplyLengths, atWaitLengths}
 use Rattle.store.specs.Layout.{atOrder, atRequests, atReplies, atFirsts, atSeconds, atHeads, atFirstOperands, atSecondOperands}
@@ -55,7 +55,8 @@ nextAt m e = choose (eqb (lengthsAt atRequestLengths m 0 e) 0) [] (byteIn (gridA
 
 abbrev pub requestsAt : List ℕ → ℕ → ℕ → List ℕ
 requestsAt m =
-    onGrid (λ level position. choose (eqb level 0) (nextAt m position) (tagsIn (gridAt atRequests m level position) (lengthsAt atRequestLengths m level position)))
+    onGrid (λ level position. choose (eqb level 0) (nextAt m position)
+    (tagsIn (gridAt atRequests m level position) (lengthsAt atRequestLengths m level position)))
 
 abbrev pub buffersAt : ℕ → ℕ → ℕ → List ℕ → ℕ → ℕ → List Pair
 buffersAt lengths firsts seconds m =

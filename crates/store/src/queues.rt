@@ -11,12 +11,12 @@ use super::WAIT_LENGTHS;
 use queue::Pairs;
 use queue::Tags;
 ghost use mathlib.Core.Path.{_≡_};
-ghost use mathlib.Core.List.{[], _∷_, _++_};
+ghost use mathlib.Core.List.{[], _∷_};
 ghost use Prim.Native.Nat.{suc, _≤_, _<_};
 ghost use lib.Dec.{eqb, ltb};
 ghost use lib.ListN.{length, getD, drop};
 ghost use Rattle.lists.specs.Choice.{choose};
-ghost use Rattle.view.specs.View.{withRequests, withReplies, withWaits};
+ghost use Rattle.view.specs.View.{withRequests, withReplies, withReply, withWaits};
 ghost use Rattle.queue.specs.Queue.{tagsOf, pairsOf, HeldTags, HeldPairs};
 ghost use Rattle.store.specs.Layout.{size};
 ghost use Rattle.store.specs.Memory.{view, Becomes, RowOf};
@@ -187,7 +187,7 @@ pub fn push_reply(m: &mut Machine, level: usize, position: usize, t: u8)
     requires { ⌜ length (now m) ≡ size ⌝ }
     requires { ⌜ (level < 5) × (position < 16) ⌝ }
     requires { ⌜ length (view (now m) .replies level position) < 8 ⌝ }
-    ensures { λ _. ⌜ Becomes (now (m .exit)) (withReplies (view (now (m .entry))) level position (view (now (m .entry)) .replies level position ++ (t ∷ []))) ⌝ }
+    ensures { λ _. ⌜ Becomes (now (m .exit)) (withReply (view (now (m .entry))) level position t) ⌝ }
 {
     let at = REPLIES + (level * 16 + position);
     m[at] = words::with_lowest(m[at], t);

@@ -8,9 +8,9 @@ use operation::Words;
 ghost use mathlib.Core.Path.{_≡_};
 ghost use Prim.Native.Nat.{_+_, _*_, _/_, _%_, _^_, _≤_, _<_};
 ghost use lib.ListN.{length};
-ghost use Rattle.operation.specs.Operation.{operationOf, wordsOf};
+ghost use Rattle.operation.specs.Operation.{wordsOf};
 ghost use Rattle.wiring.specs.Wiring.{positionOn};
-ghost use Rattle.view.specs.View.{withFixed, withCarried, withRequest, linked};
+ghost use Rattle.view.specs.View.{operationIn, valued, withFixed, withCarried, withRequest, linked};
 ghost use Rattle.store.specs.Layout.{size};
 ghost use Rattle.store.specs.Memory.{view, Becomes};
 
@@ -72,7 +72,7 @@ pub fn position_of(m: &Machine, t: u8, level: usize) -> usize
 
 // The operation that the message or the wait record of t carries.
 pub fn operation_at(m: &Machine, t: u8) -> Operation
-    ensures { λ r. ⌜ r ≡ operationOf (view (now (m .entry)) .carried t .code) (view (now (m .entry)) .carried t .first) (view (now (m .entry)) .carried t .second) ⌝ }
+    ensures { λ r. ⌜ r ≡ operationIn (view (now (m .entry)) .carried t) ⌝ }
 {
     let i = t as usize;
     let code = m[HEADS + i] % 256;
@@ -107,8 +107,7 @@ pub fn value_at(m: &Machine, t: u8) -> u64
 
 pub fn set_value(m: &mut Machine, t: u8, value: u64)
     requires { ⌜ length (now m) ≡ size ⌝ }
-    ensures { λ _. ⌜ Becomes (now (m .exit)) (withCarried (view (now (m .entry))) t
-        (record { code = view (now (m .entry)) .carried t .code; first = value; second = view (now (m .entry)) .carried t .second })) ⌝ }
+    ensures { λ _. ⌜ Becomes (now (m .exit)) (withCarried (view (now (m .entry))) t (valued (view (now (m .entry)) .carried t) value)) ⌝ }
 {
     m[FIRST_OPERANDS + t as usize] = value;
 }

@@ -1,10 +1,12 @@
 -- What the machine in code holds, by name, and each change that the code makes to it. Nothing here says how it is kept: `store` does.
 use Prim.Native.Nat.{ℕ, suc}
 use mathlib.Core.Bool.{Bool, true, false}
-use mathlib.Core.List.{List, [], _++_}
+use mathlib.Core.List.{List, [], _∷_, _++_}
 use lib.Dec.{ltb}
 use Rattle.lists.specs.Table.{update, update2}
 use Rattle.lists.specs.Pair.{Pair}
+use Rattle.operation.specs.Operation.{operationOf}
+use Rattle.operation.specs.declared.Operation.{Operation}
 use Rattle.operation.specs.declared.Words.{Words}
 
 -- What no step changes: the shape, the number of requests and a mark for each of them; of each tag its address, the path of its
@@ -34,6 +36,13 @@ pub record View : Type 0 where
   pub accesses : ℕ
   pub merges : ℕ
   pub rounds : ℕ
+
+-- the operation that a tag carries; what it carries once it is answered with a value
+abbrev pub operationIn : Words → Operation
+operationIn c = operationOf (c .code) (c .first) (c .second)
+
+abbrev pub valued : Words → ℕ → Words
+valued c value = record { code = c .code; first = value; second = c .second }
 
 -- ---- the changes
 -- another shape, or other requests
@@ -122,6 +131,10 @@ withReplies v s p l = record {
   merges = v .merges;
   rounds = v .rounds;
 }
+
+-- one more reply, the youngest of its queue
+abbrev pub withReply : View → ℕ → ℕ → ℕ → View
+withReply v s p t = withReplies v s p (v .replies s p ++ (t ∷ []))
 
 -- a wait buffer
 abbrev pub withWaits : View → ℕ → ℕ → List Pair → View

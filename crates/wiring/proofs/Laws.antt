@@ -30,7 +30,8 @@ unfolding position
 position-beyond k e m s h =
     let d : k - s ≡ 0 = omega arith in
     let f : s ≡ (s - k) + k = omega arith in
-    let g : e * 2 ^ s ≡ e * 2 ^ (s - k) * 2 ^ k = ap (λ (n : ℕ). e * 2 ^ n) f ∙ ap (λ (n : ℕ). e * n) (pow-add 2 (s - k) k) ∙ sym (mul-assoc e (2 ^ (s - k)) (2 ^ k)) in
+    let p : 2 ^ s ≡ 2 ^ (s - k) * 2 ^ k = ap (λ (n : ℕ). 2 ^ n) f ∙ pow-add 2 (s - k) k in
+    let g : e * 2 ^ s ≡ e * 2 ^ (s - k) * 2 ^ k = ap (λ (n : ℕ). e * n) p ∙ sym (mul-assoc e (2 ^ (s - k)) (2 ^ k)) in
     let w : m / 1 ≡ m = omega arith in
     rw (d, g, w) (mul-add-mod-self-right (e * 2 ^ (s - k)) (2 ^ k) m)
 

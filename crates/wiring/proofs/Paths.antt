@@ -15,7 +15,8 @@ pub position-window : (k e m s : ℕ) → s ≤ k → position k e m s ≡ (e * 
 unfolding position
 position-window k e m s l =
     let b : k ≡ s + (k - s) = omega arith in
-    let p : e * 2 ^ k ≡ e * 2 ^ s * 2 ^ (k - s) = ap (λ (n : ℕ). e * 2 ^ n) b ∙ ap (λ (n : ℕ). e * n) (pow-add 2 s (k - s)) ∙ sym (mul-assoc e (2 ^ s) (2 ^ (k - s))) in
+    let d : 2 ^ k ≡ 2 ^ s * 2 ^ (k - s) = ap (λ (n : ℕ). 2 ^ n) b ∙ pow-add 2 s (k - s) in
+    let p : e * 2 ^ k ≡ e * 2 ^ s * 2 ^ (k - s) = ap (λ (n : ℕ). e * n) d ∙ sym (mul-assoc e (2 ^ s) (2 ^ (k - s))) in
     let q : e * 2 ^ k + m ≡ m + e * 2 ^ s * 2 ^ (k - s) = omega arith in
     let w : (e * 2 ^ k + m) / 2 ^ (k - s) ≡ e * 2 ^ s + m / 2 ^ (k - s) =
     ap (λ (n : ℕ). n / 2 ^ (k - s)) q ∙ add-mul-div-right m (e * 2 ^ s) (pow-pos (k - s)) ∙ add-comm (m / 2 ^ (k - s)) (e * 2 ^ s) in
@@ -28,13 +29,13 @@ pub record From (k e m left route path : ℕ) : Type 0 where
   pub positions : (i : ℕ) → i + left ≤ k → positionOn path i ≡ position k e m (i + left)
   pub small : path < place 4 (k + 1 - left)
 
-module _ (k e m : ℕ) where
+module _ {k e m : ℕ} where
   pub from-none : From k e m (k + 1) (e * 2 ^ k + m) 0
   from-none =
       let z : k + 1 - (k + 1) ≡ 0 = omega arith in
       record { within = omega arith; shifted = rw z (sym (div-one (e * 2 ^ k + m))); positions = λ i h. absurd (omega arith); small = rw z (omega arith) }
 
-  module _ (few : k ≤ 4) (left route path : ℕ) (h : From k e m left route path) where
+  module _ (few : k ≤ 4) {left route path : ℕ} (h : From k e m left route path) where
     -- while a level is left, the word has at most four positions
     pub from-small : 0 < left → path < 2 ^ 16
     from-small l = lt-of-lt-of-le (h .small) (pow-mono {i = (k + 1 - left) * 4} {j = 16} (omega arith))

@@ -65,7 +65,8 @@ module _ (bits : ℕ) where
   digits-same zero w w′ f f′ h = let g : w < 1 = rw (zero-mul bits) at f in let g′ : w′ < 1 = rw (zero-mul bits) at f′ in omega arith
   digits-same (suc n) w w′ f f′ h =
       sym (div-add-mod' w base)
-      ∙ ap₂ (λ (q d : ℕ). q * base + d) (digits-same n (w / base) (w′ / base) (rest-fits n w f) (rest-fits n w′ f′) (λ p l. sym (digit-suc w p) ∙ h (suc p) (omega arith) ∙ digit-suc w′ p))
+      ∙ ap₂ (λ (q d : ℕ). q * base + d)
+      (digits-same n (w / base) (w′ / base) (rest-fits n w f) (rest-fits n w′ f′) (λ p l. sym (digit-suc w p) ∙ h (suc p) (omega arith) ∙ digit-suc w′ p))
       (sym (digit-zero w) ∙ h 0 (omega arith) ∙ digit-zero w′)
       ∙ div-add-mod' w′ base
 
@@ -162,10 +163,12 @@ module _ (bits : ℕ) where
   without-low w zero p l = absurd (omega arith)
   without-low w (suc k) zero l = rw without-suc (digit-pushed (without (w / base) k) (w % base) (mod-lt w (pow-pos bits)) ∙ sym (digit-zero w))
   without-low w (suc k) (suc p) l =
-      rw without-suc (digit-moved (without (w / base) k) (w % base) p (mod-lt w (pow-pos bits)) ∙ without-low (w / base) k p (omega arith) ∙ sym (digit-suc w p))
+      rw without-suc
+      (digit-moved (without (w / base) k) (w % base) p (mod-lt w (pow-pos bits)) ∙ without-low (w / base) k p (omega arith) ∙ sym (digit-suc w p))
 
   pub without-high : (w k p : ℕ) → k ≤ p → digit bits (without w k) p ≡ digit bits w (suc p)
   without-high w zero p l = rw (without-zero w) (sym (digit-suc w p))
   without-high w (suc k) zero l = absurd (omega arith)
   without-high w (suc k) (suc p) l =
-      rw without-suc (digit-moved (without (w / base) k) (w % base) p (mod-lt w (pow-pos bits)) ∙ without-high (w / base) k p (omega arith) ∙ sym (digit-suc w (suc p)))
+      rw without-suc
+      (digit-moved (without (w / base) k) (w % base) p (mod-lt w (pow-pos bits)) ∙ without-high (w / base) k p (omega arith) ∙ sym (digit-suc w (suc p)))

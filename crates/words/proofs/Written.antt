@@ -101,7 +101,8 @@ module _ (w i : ℕ) (a : i < 8) where
 
     high-le : w / place 8 i / 256 * place 8 i ≤ w / 256
     high-le =
-        le-trans (le-of-eq (ap (λ (x : ℕ). x * place 8 i) (div-div-eq-div-mul w (place 8 i) 256 ∙ ap (λ (x : ℕ). w / x) (mul-comm (place 8 i) 256) ∙ sym (div-div-eq-div-mul w 256 (place 8 i)))))
+        let e = div-div-eq-div-mul w (place 8 i) 256 ∙ ap (λ (x : ℕ). w / x) (mul-comm (place 8 i) 256) ∙ sym (div-div-eq-div-mul w 256 (place 8 i)) in
+        le-trans (le-of-eq (ap (λ (x : ℕ). x * place 8 i) e))
         (div-mul-le-self (w / 256) (place 8 i))
 
     removed-is : removed ≡ without 8 w i
@@ -109,7 +110,8 @@ module _ (w i : ℕ) (a : i < 8) where
 
     pub removed-fits : removed < 2 ^ 64
     removed-fits =
-        rw shift (omega (arith, high-le, mod-le (w / place 8 i / 256 * place 8 i) (2 ^ 64), mod-lt w (pow-pos (i * 8)), pow-mono {i = i * 8} {j = 56} (omega arith)))
+        let low = mod-lt w (pow-pos (i * 8)) in
+        rw shift (omega (arith, high-le, mod-le (w / place 8 i / 256 * place 8 i) (2 ^ 64), low, pow-mono {i = i * 8} {j = 56} (omega arith)))
 
     pub removed-without : Without w i removed
     removed-without = rw removed-is record { below = without-low 8 w i; above = without-high 8 w i }

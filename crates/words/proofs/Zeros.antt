@@ -25,7 +25,8 @@ unfolding trailingZeros
 inside zero k w h = absurd (h (mod-one w))
 inside (suc n) k w h =
     rw suc-add (one (w % 2) (trailingZeros (n + k) (w / 2)) n
-    (λ (e : w % 2 ≡ 0). inside n k (w / 2) (λ (z : w / 2 % 2 ^ n ≡ 0). h (rw (pow-suc 2 n) (omega (arith, mod-mul w {m = 2 ^ n} {c = 2} (pow-pos n) (omega arith)))))))
+    (λ (e : w % 2 ≡ 0). inside n k (w / 2)
+    (λ (z : w / 2 % 2 ^ n ≡ 0). h (rw (pow-suc 2 n) (omega (arith, mod-mul w {m = 2 ^ n} {c = 2} (pow-pos n) (omega arith)))))))
   where
     one : (d t m : ℕ) → (d ≡ 0 → t < m) → under d t < suc m
     one zero t m h = omega (arith, h refl)

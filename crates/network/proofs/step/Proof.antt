@@ -14,30 +14,40 @@ returns : tie.Need-returns
 returns c = rested-moves (named (c .before .before .before)) (c .before .nothing-to-move .ensures) (c .if1 .taken)
 
 issue-requires : tie.Need-issue-requires
-issue-requires c κs = let s = c .before .before .before .before .before in
-    (ready-any (named s), (s .pre .1 .1, to-issue (named s) (c .before .before .before .nothing-to-move .ensures) (c .before .before .if1 .left) (c .before .match .keys1)))
+issue-requires c κs =
+    let test = c .before .before in
+    let s = test .before .before .before in
+    (ready-any (named s), (s .pre .1 .1, to-issue (named s) (test .before .nothing-to-move .ensures) (test .if1 .left) (c .before .match .keys1)))
 
 forward-requires : tie.Need-forward-requires
-forward-requires c κs = let s = c .before .before .before .before .before in
+forward-requires c κs =
+    let test = c .before .before in
+    let s = test .before .before .before in
     let is = c .before .match .keys2 in
     let within = level-1 (named s) is in
-    (ready-any (named s), ((within .0, within .1, s .pre .1 .1), to-forward (named s) (c .before .before .before .nothing-to-move .ensures) (c .before .before .if1 .left) is))
+    (ready-any (named s), ((within .0, within .1, s .pre .1 .1), to-forward (named s) (test .before .nothing-to-move .ensures) (test .if1 .left) is))
 
 module-step-requires : tie.Need-module-step-requires
-module-step-requires c κs = let s = c .before .before .before .before .before .before in
-    (s .pre .0, (s .pre .1 .1, to-serve (named s) (c .before .before .before .before .nothing-to-move .ensures) (c .before .before .before .if1 .left) (c .before .before .match .keys3)))
+module-step-requires c κs =
+    let test = c .before .before .before in
+    let s = test .before .before .before in
+    (s .pre .0, (s .pre .1 .1, to-serve (named s) (test .before .nothing-to-move .ensures) (test .if1 .left) (c .before .before .match .keys3)))
 
 return-step-requires : tie.Need-return-step-requires
-return-step-requires c κs = let s = c .before .before .before .before .before in
+return-step-requires c κs =
+    let test = c .before .before in
+    let s = test .before .before .before in
     let is = c .before .match .keys4 in
     let within = level-3 (named s) is in
-    (ready-any (named s), ((within .0, within .1, s .pre .1 .1), to-return (named s) (c .before .before .before .nothing-to-move .ensures) (c .before .before .if1 .left) is))
+    (ready-any (named s), ((within .0, within .1, s .pre .1 .1), to-return (named s) (test .before .nothing-to-move .ensures) (test .if1 .left) is))
 
 collect-requires : tie.Need-collect-requires
-collect-requires c κs = let s = c .before .before .before .before .before in
+collect-requires c κs =
+    let test = c .before .before in
+    let s = test .before .before .before in
     let n = c .before .match .rest in
     let is = last-kind (named s) (n .0 .0 .0 .1) (n .0 .0 .1) (n .0 .1) (n .1) in
-    (ready-any (named s), (s .pre .1 .1, to-collect (named s) (c .before .before .before .nothing-to-move .ensures) (c .before .before .if1 .left) is))
+    (ready-any (named s), (s .pre .1 .1, to-collect (named s) (test .before .nothing-to-move .ensures) (test .if1 .left) is))
 
 returns-2 : tie.Need-returns-2
 returns-2 c = issued (named (c .before .before .before .before .before .before)) (c .before .before .match .keys1) (c .issue .ensures)

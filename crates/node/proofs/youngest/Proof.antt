@@ -44,7 +44,8 @@ loop-again c = let l = c .before .before .before .before in
 
 returns-2 : tie.Need-returns-2 Inv-loop μ-loop
 returns-2 c = let s = c .before .before in
-    youngest-none (view (s .args .m .now) .fixed .address) (s .args .address) (s .args .queue) (λ j l. c .before .loop .inv j (omega (arith, l, c .loop-test .left)))
+    youngest-none (view (s .args .m .now) .fixed .address) (s .args .address) (s .args .queue)
+    (λ j l. c .before .loop .inv j (omega (arith, l, c .loop-test .left)))
 
 pub youngest-spec : {M : Type 1} → statement M
 youngest-spec =

@@ -99,8 +99,8 @@ returns-2 t c =
     let test = below .before .before in
     let s = test .before in
     let w = loaded .load-waits in
-    put-empty (s .args .m .now) _ (s .args .level) (s .args .t) _ (w .result .firsts) (w .result .seconds) (w .result .len) (test .if1 .left) (on .position-of .ensures .0) (w .ensures .0)
-    (below .expand .ensures) (c .if2 .taken)
+    put-empty (s .args .m .now) _ (s .args .level) (s .args .t) _ (w .result .firsts) (w .result .seconds) (w .result .len)
+    (test .if1 .left) (on .position-of .ensures .0) (w .ensures .0) (below .expand .ensures) (c .if2 .taken)
 
 place-of-requires : (t : ℕ) → expand-lts.Need-place-of-requires (claims t) (expand-at t) expand.Post expand-Inv-loop expand-μ-loop
 place-of-requires t c κs = search needs
@@ -140,8 +140,9 @@ expand-requires-2 t c κs =
     let w = loaded .load-waits in
     let put = loop .loop .inv .0 in
     let fit = fit-kept _ (fit-kept _ (s .pre .1 .1 .1 .0) (below .expand .ensures)) put in
-    let room = second-room (s .args .m .now) _ (s .args .level) (s .args .t) _ (w .result .firsts) (w .result .seconds) (w .result .len) (test .if1 .left) (on .position-of .ensures .0) (w .ensures .0)
-    (below .expand .ensures) (loop .loop .i) _ _ (turn .loop-test .taken) (first .first .ensures) (hit .if3 .taken) (second .second .ensures) put (s .pre .1 .1 .1 .1) in
+    let room = second-room (s .args .m .now) _ (s .args .level) (s .args .t) _ (w .result .firsts) (w .result .seconds) (w .result .len)
+    (test .if1 .left) (on .position-of .ensures .0) (w .ensures .0) (below .expand .ensures) (loop .loop .i) _ _ (turn .loop-test .taken)
+    (first .first .ensures) (hit .if3 .taken) (second .second .ensures) put (s .pre .1 .1 .1 .1) in
     (omega (arith, s .pre .0, test .if1 .left), (put .sized, (omega (arith, s .pre .1 .1 .0), (fit, room))))
 
 add-i : (t : ℕ) → expand-lts.Need-add-i (claims t) (expand-at t) expand.Post expand-Inv-loop expand-μ-loop
@@ -174,8 +175,9 @@ returns-3 t c =
     let test = below .before .before in
     let s = test .before in
     let w = loaded .load-waits in
-    put-all (s .args .m .now) _ (s .args .level) (s .args .t) _ (w .result .firsts) (w .result .seconds) (w .result .len) (test .if1 .left) (on .position-of .ensures .0) (w .ensures .0)
-    (below .expand .ensures) (loop .loop .i) (loop .loop .inv .1 (omega (arith, c .loop-test .left))) (loop .loop .inv .0)
+    put-all (s .args .m .now) _ (s .args .level) (s .args .t) _ (w .result .firsts) (w .result .seconds) (w .result .len)
+    (test .if1 .left) (on .position-of .ensures .0) (w .ensures .0) (below .expand .ensures)
+    (loop .loop .i) (loop .loop .inv .1 (omega (arith, c .loop-test .left))) (loop .loop .inv .0)
 
 pub +expand-spec : {M : Type 1} → statement M
 +expand-spec = close μ-expand λ t. expand-lts.spec (claims t) (expand-at t) expand.Post expand-Inv-loop expand-μ-loop

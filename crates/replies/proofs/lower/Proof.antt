@@ -30,8 +30,13 @@ push-reply-requires c κs =
     let s = on .before .before in
     let pop = popped .pop-reply .ensures in
     let to = on .position-of .ensures in
-    let kept = target-kept (s .args .m .now) (s .args .level) _ _ (s .args .t) _ (omega (arith, s .pre .1 .0)) (to .0) pop in
-    (pop .sized, ((omega (arith, s .pre .1 .0), to .1), rw kept (omega (arith, s .pre .1 .0, count .reply-count .ensures, room .queue-room .ensures, test .if1 .taken))))
+    let kept = target-kept (s .args .m .now) (s .args .level) _ _ (s .args .t) _ (omega (arith, s .pre .1 .0)) (to .0) pop in (
+      pop .sized,
+      (
+        (omega (arith, s .pre .1 .0), to .1),
+        rw kept (omega (arith, s .pre .1 .0, count .reply-count .ensures, room .queue-room .ensures, test .if1 .taken)),
+      ),
+    )
 
 returns : tie.Need-returns
 returns c =

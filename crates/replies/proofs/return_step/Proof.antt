@@ -54,8 +54,8 @@ returns c =
     let loaded = found .before in
     let oldest = loaded .before .before in
     let s = oldest .before .before in
-    split-returns (s .args .m .now) _ _ _ (s .pre .1 .0 .0) (s .pre .1 .0 .1) (s .pre .1 .1) (oldest .oldest-reply .ensures) _ (loaded .load-waits .ensures .0) _
-    (rw (hit .found .given .1) at (found .find .ensures)) (c .split .ensures)
+    split-returns (s .args .m .now) _ _ _ (s .pre .1 .0 .0) (s .pre .1 .0 .1) (s .pre .1 .1) (oldest .oldest-reply .ensures) _
+    (loaded .load-waits .ensures .0) _ (rw (hit .found .given .1) at (found .find .ensures)) (c .split .ensures)
 
 returns-2 : tie.Need-returns-2
 returns-2 c =

@@ -14,7 +14,8 @@ use Rattle.replies.proofs.split.Tie as tie
 second-is : (c : tie.After-second) → c .second .result ≡ getD (pairsOf (c .before .args .waits)) (c .before .args .i) noPair .second
 second-is c =
     let s = c .before in
-    c .second .ensures ∙ sym (ap (λ (r : Pair). r .second) (pairs-at (s .args .waits .firsts) (s .args .waits .seconds) (s .args .waits .len) (s .args .i) (s .pre .1 .1 .1)))
+    let w = s .args .waits in
+    c .second .ensures ∙ sym (ap (λ (r : Pair). r .second) (pairs-at (w .firsts) (w .seconds) (w .len) (s .args .i) (s .pre .1 .1 .1)))
 
 second-requires : tie.Need-second-requires
 second-requires c κs = omega (arith, c .pre .1 .1)
@@ -88,7 +89,8 @@ returns c =
     let u = on .before .before in
     let s = u .before in
     split-room (s .args .m .now) (s .args .level) _ _ _ _ _ _ _ (omega (arith, s .pre .1 .0)) (second-is u) (on .position-of .ensures .0) _ _ _ _
-    (omega (arith, count .reply-count .ensures, room .queue-room .ensures, test .if1 .taken)) (f .operation-at .ensures) (value .value-at .ensures) (applied .apply .ensures)
+    (omega (arith, count .reply-count .ensures, room .queue-room .ensures, test .if1 .taken))
+    (f .operation-at .ensures) (value .value-at .ensures) (applied .apply .ensures)
     (fewer .removed .ensures .0) (set .set-value .ensures) (pushed .push-reply .ensures) (c .store-shorter-waits .ensures)
 
 returns-2 : tie.Need-returns-2

@@ -8,11 +8,15 @@ use Rattle.requests.proofs.Landings.{went-refused, went-appended, went-
 use Rattle.requests.proofs.arrive_at.Statement.{statement}
 use Rattle.requests.proofs.arrive_at.Tie as tie
 
+-- where the function starts, from where both rooms and queues are read
+abbrev start : tie.After-load-waits → tie.Start
+start c = c .before .before .before .before .before .before .before .before
+
 -- the node in hand
 abbrev node-at : (c : tie.After-load-waits) → Node
 node-at c = record { queue = c .before .before .load-requests .result; waiting = c .load-waits .result }
 
-loaded : (c : tie.After-load-waits) → let s = c .before .before .before .before .before .before .before .before in
+loaded : (c : tie.After-load-waits) → let s = start c in
     InHand (node-at c) (view (s .args .m .now)) (s .args .t) (s .args .level) (s .args .position)
     (c .before .before .before .before .before .before .queue-room .result) (c .before .before .before .before .wait-room .result)
 loaded c = record {
@@ -36,7 +40,8 @@ load-waits-requires : tie.Need-load-waits-requires
 load-waits-requires c κs = let s = c .before .before .before .before .before .before .before in ((s .pre .1 .0 .1, s .pre .1 .0 .2), s .pre .1 .0 .4)
 
 arrive-requires : tie.Need-arrive-requires
-arrive-requires c κs = let s = c .before .before .before .before .before .before .before .before .before in
+arrive-requires c κs =
+    let s = start (c .before) in
     let l = loaded (c .before) in (
       s .pre .0,
       (
@@ -53,8 +58,8 @@ enum-told-2 c = search needs
 
 store-longer-requests-requires : tie.Need-store-longer-requests-requires
 store-longer-requests-requires c κs =
-    let s = c .before .before .before .before .before .before .before .before .before .before .before .before .before .before .before in
-    let a = c .before .before .before .before .before in (
+    let a = c .before .before .before .before .before in
+    let s = start (a .before .before) in (
       a .arrive .ensures .sized,
       (
         (s .pre .1 .0 .0, s .pre .1 .0 .1, s .pre .1 .0 .2),
@@ -67,8 +72,8 @@ enum-told-3 c = search needs
 
 store-longer-waits-requires : tie.Need-store-longer-waits-requires
 store-longer-waits-requires c κs =
-    let s = c .before .before .before .before .before .before .before .before .before .before .before .before .before .before .before in
-    let a = c .before .before .before .before .before in (
+    let a = c .before .before .before .before .before in
+    let s = start (a .before .before) in (
       a .arrive .ensures .sized,
       (
         (s .pre .1 .0 .1, s .pre .1 .0 .2),
@@ -78,8 +83,8 @@ store-longer-waits-requires c κs =
 
 add-merge-requires : tie.Need-add-merge-requires
 add-merge-requires c κs =
-    let s = c .before .before .before .before .before .before .before .before .before .before .before .before .before .before .before .before .before in
     let a = c .before .before .before .before .before .before .before in
+    let s = start (a .before .before) in
     let stored = c .before .store-longer-waits .ensures in
     (stored .sized, merges-still-few (loaded (a .before .before)) (a .arrive .ensures) stored (s .pre .1 .1 .0 .2))
 
@@ -92,9 +97,11 @@ returns-2 c = let a = c .before .before .before .before .before .before in
     went-appended (loaded (a .before .before)) (a .arrive .ensures) (c .before .before .before .enum-told2 .given .1) (c .store-longer-requests .ensures)
 
 returns-3 : tie.Need-returns-3
-returns-3 c = let stored = c .before .before in
+returns-3 c =
+    let stored = c .before .before in
     let a = stored .before .before .before .before .before .before in
-    went-merged (loaded (a .before .before)) (a .arrive .ensures) (stored .store-longer-waits .ensures) (stored .before .before .before .enum-told3 .given .1) (c .add-merge .ensures)
+    let merged = stored .before .before .before .enum-told3 .given .1 in
+    went-merged (loaded (a .before .before)) (a .arrive .ensures) (stored .store-longer-waits .ensures) merged (c .add-merge .ensures)
 
 pub arrive-at-spec : {M : Type 1} → statement M
 arrive-at-spec =

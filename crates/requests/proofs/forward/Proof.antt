@@ -8,8 +8,8 @@ use Rattle.requests.proofs.forward.Statement.{statement}
 use Rattle.requests.proofs.forward.Tie as tie
 
 -- the queue's oldest, on its path
-goes : (c : tie.After-position-of) → let s = c .before .before .before .before in
-    Going (s .args .m .now) (single 1 (s .args .level) (s .args .position)) (s .args .level) (s .args .position) (c .before .before .oldest-request .result) (c .position-of .result)
+goes : (c : tie.After-position-of) → let a = c .before .before .before .before .args in
+    Going (a .m .now) (single 1 (a .level) (a .position)) (a .level) (a .position) (c .before .before .oldest-request .result) (c .position-of .result)
 goes c = let s = c .before .before .before .before in
     forward-goes (s .pre .0) (s .pre .1 .0 .1) (s .pre .1 .1) (c .before .before .oldest-request .ensures) (c .position-of .ensures .0)
 
@@ -39,16 +39,19 @@ add-arrive-at : tie.Need-add-arrive-at
 add-arrive-at c = record { fits = omega (arith, low (c .before .before .before .before .before .before .before .before)) }
 
 arrive-at-requires : tie.Need-arrive-at-requires
-arrive-at-requires c κs = let s = c .before .before .before .before .before .before .before .before in
+arrive-at-requires c κs =
     let to = c .before .before .before .before in
+    let s = to .before .before .before .before in
     let r = rooms (s .pre .0) in
     let few = going-few (goes to) in
     (s .pre .0 .sized, ((omega arith, omega (arith, low s), to .position-of .ensures .1, few .0, few .1), (r, going-apart (goes to))))
 
 pop-request-requires : tie.Need-pop-request-requires
-pop-request-requires c κs = let s = c .before .before .before .before .before .before .before .before .before .before .before in
+pop-request-requires c κs =
+    let to = c .before .before .before .before .before .before .before in
+    let s = to .before .before .before .before in
     let went = c .before .before .arrive-at .ensures in
-    (went .sized, ((s .pre .1 .0 .0, omega (arith, low s), s .pre .1 .0 .2), source-filled (goes (c .before .before .before .before .before .before .before)) went))
+    (went .sized, ((s .pre .1 .0 .0, omega (arith, low s), s .pre .1 .0 .2), source-filled (goes to) went))
 
 returns-2 : tie.Need-returns-2
 returns-2 c = let a = c .before .before in

@@ -29,8 +29,9 @@ after-of-requires : tie.Need-after-of-requires
 after-of-requires c κs = search needs
 
 arrive-at-requires : tie.Need-arrive-at-requires
-arrive-at-requires c κs = let s = c .before .before .before .before .before .before .before .before .before .before in
+arrive-at-requires c κs =
     let to = c .before .before .before .before .before .before in
+    let s = to .before .before .before .before in
     let r = rooms (s .pre .0) in
     let few = going-few (goes to) in
     (s .pre .0 .sized, ((omega arith, omega arith, to .position-of .ensures .1, few .0, few .1), (r, going-apart (goes to))))
@@ -42,8 +43,10 @@ replace-next-requires c κs = let a = c .before .before in
     (went .sized, (to .before .before .before .before .pre .1 .0, (count-still-few (goes to) went, source-filled (goes to) went)))
 
 returns-2 : tie.Need-returns-2
-returns-2 c = let a = c .before .before .before in
-    issued-moves (goes (a .before .before .before .before .before .before .before)) (a .arrive-at .ensures) (c .before .before .if2 .taken) (a .before .before .after-of .ensures) (c .replace-next .ensures)
+returns-2 c =
+    let a = c .before .before .before in
+    let to = a .before .before .before .before .before .before .before in
+    issued-moves (goes to) (a .arrive-at .ensures) (c .before .before .if2 .taken) (a .before .before .after-of .ensures) (c .replace-next .ensures)
 
 returns-3 : tie.Need-returns-3
 returns-3 c = let a = c .before in

@@ -19,14 +19,16 @@ forwards-down-requires : tie.Need-forwards-down-requires
 forwards-down-requires c κs = let s = c .before in
     let r = s .before .before .before in
     let a = r .before .before in
-    ready-alone (round-modules (round-returns (round-collects (a .before .before .pre) (a .collects .ensures)) (r .returns-up .ensures)) (s .modules .ensures) .ready)
+    let returned = round-returns (round-collects (a .before .before .pre) (a .collects .ensures)) (r .returns-up .ensures) in
+    ready-alone (round-modules returned (s .modules .ensures) .ready)
 
 issues-requires : tie.Need-issues-requires
 issues-requires c κs = let f = c .before in
     let s = f .before .before in
     let r = s .before .before .before in
     let a = r .before .before in
-    let served = round-modules (round-returns (round-collects (a .before .before .pre) (a .collects .ensures)) (r .returns-up .ensures)) (s .modules .ensures) in
+    let returned = round-returns (round-collects (a .before .before .pre) (a .collects .ensures)) (r .returns-up .ensures) in
+    let served = round-modules returned (s .modules .ensures) in
     ready-alone (round-forwards served (f .forwards-down .ensures) .ready)
 
 returns : tie.Need-returns
@@ -34,7 +36,8 @@ returns c = let f = c .before .before in
     let s = f .before .before in
     let r = s .before .before .before in
     let a = r .before .before in
-    let served = round-modules (round-returns (round-collects (a .before .before .pre) (a .collects .ensures)) (r .returns-up .ensures)) (s .modules .ensures) in
+    let returned = round-returns (round-collects (a .before .before .pre) (a .collects .ensures)) (r .returns-up .ensures) in
+    let served = round-modules returned (s .modules .ensures) in
     round-issues (round-forwards served (f .forwards-down .ensures)) (c .issues .ensures)
 
 pub round-spec : {M : Type 1} → statement M

@@ -24,7 +24,8 @@ set-next-requires : tie.Need-set-next-requires
 set-next-requires c κs =
     let after = c .before .set-after .ensures in
     let start = c .before .before .before .before .before .before .before in
-    (after .sized, (omega (arith, c .before .before .before .before .before .position-of .ensures .1), omega (arith, ap (λ (v : View). v .fixed .count) (after .holds), start .pre .1 .1)))
+    let engine = c .before .before .before .before .before .position-of .ensures in
+    (after .sized, (omega (arith, engine .1), omega (arith, ap (λ (v : View). v .fixed .count) (after .holds), start .pre .1 .1)))
 
 returns : tie.Need-returns
 returns c =

@@ -17,7 +17,8 @@ set-shape-requires c κs = (c .before .pre .sized, omega (arith, loaded-within (
 loop-holds : tie.Need-loop-holds Inv-loop μ-loop
 loop-holds c =
     let start = c .before .before in
-    linking-none (start .args .m .now) (start .args .k) (start .args .q) (start .args .w) (start .args .count) (start .pre) (c .set-shape .last .0) (c .set-shape .ensures)
+    let a = start .args in
+    linking-none (a .m .now) (a .k) (a .q) (a .w) (a .count) (start .pre) (c .set-shape .last .0) (c .set-shape .ensures)
 
 sub-t : tie.Need-sub-t Inv-loop μ-loop
 sub-t c = omega arith
@@ -34,7 +35,9 @@ loop-less c = omega arith
 loop-again : tie.Need-loop-again Inv-loop μ-loop
 loop-again c =
     let l = c .before .before .before in
-    linking-more (l .before .set-shape .last .0) (l .loop .m) (l .before .before .before .args .count) (l .loop .t) (l .loop .inv) (omega arith) (c .link .last .0) (c .link .ensures)
+    let i = l .loop in
+    let shaped = l .before in
+    linking-more (shaped .set-shape .last .0) (i .m) (shaped .before .before .args .count) (i .t) (i .inv) (omega arith) (c .link .last .0) (c .link .ensures)
 
 returns : tie.Need-returns Inv-loop μ-loop
 returns c =

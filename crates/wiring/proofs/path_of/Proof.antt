@@ -24,7 +24,8 @@ add-route c =
     let s = c .before in
     let small = width-small (s .args .k) (s .pre .0) in
     let exact = left-exact (s .args .engine) (s .args .k) (omega (arith, s .pre .1, small)) (s .pre .0) in
-    record { fits = omega (arith, exact, left-small (s .args .engine) (s .args .k) (omega (arith, s .pre .1, small)) (s .pre .0), c .module-of .ensures .1, small) }
+    let shifted = left-small (s .args .engine) (s .args .k) (omega (arith, s .pre .1, small)) (s .pre .0) in
+    record { fits = omega (arith, exact, shifted, c .module-of .ensures .1, small) }
 
 add-left : tie.Need-add-left Inv-loop μ-loop
 add-left c = search needs
@@ -33,7 +34,7 @@ loop-holds : tie.Need-loop-holds Inv-loop μ-loop
 loop-holds c =
     let s = c .before in
     let exact = left-exact (s .args .engine) (s .args .k) (omega (arith, s .pre .1, width-small (s .args .k) (s .pre .0))) (s .pre .0) in
-    rw (exact, c .module-of .ensures .0) (from-none (s .args .k) (s .args .engine) (moduleOf (s .args .k) (s .args .address)))
+    rw (exact, c .module-of .ensures .0) from-none
 
 sub-left : tie.Need-sub-left Inv-loop μ-loop
 sub-left c = search needs
@@ -42,7 +43,7 @@ mul-path : tie.Need-mul-path Inv-loop μ-loop
 mul-path c =
     let l = c .before .loop in
     let s = c .before .before .before in
-    record { fits = omega (arith, from-small (s .args .k) (s .args .engine) (moduleOf (s .args .k) (s .args .address)) (s .pre .0) (l .left) (l .route) (l .path) (l .inv) (c .loop-test .taken)) }
+    record { fits = omega (arith, from-small (s .pre .0) (l .inv) (c .loop-test .taken)) }
 
 module-of-requires-2 : tie.Need-module-of-requires-2 Inv-loop μ-loop
 module-of-requires-2 c κs = search needs
@@ -51,7 +52,7 @@ add-path : tie.Need-add-path Inv-loop μ-loop
 add-path c =
     let l = c .before .before .loop in
     let s = c .before .before .before .before in
-    let small = from-small (s .args .k) (s .args .engine) (moduleOf (s .args .k) (s .args .address)) (s .pre .0) (l .left) (l .route) (l .path) (l .inv) (c .before .loop-test .taken) in
+    let small = from-small (s .pre .0) (l .inv) (c .before .loop-test .taken) in
     record { fits = omega (arith, small, c .module-of2 .ensures .1, width-small (s .args .k) (s .pre .0)) }
 
 loop-less : tie.Need-loop-less Inv-loop μ-loop
@@ -62,13 +63,13 @@ loop-again c =
     let l = c .before .before .loop in
     let s = c .before .before .before .before in
     rw (c .module-of2 .ensures .0)
-    (from-next (s .args .k) (s .args .engine) (moduleOf (s .args .k) (s .args .address)) (s .pre .0) (l .left) (l .route) (l .path) (l .inv) (c .before .loop-test .taken))
+    (from-next (s .pre .0) (l .inv) (c .before .loop-test .taken))
 
 returns : tie.Need-returns Inv-loop μ-loop
 returns c =
     let l = c .before .loop in
     let s = c .before .before .before in
-    from-all (s .args .k) (s .args .engine) (moduleOf (s .args .k) (s .args .address)) (s .pre .0) (l .left) (l .route) (l .path) (l .inv) (omega (arith, c .loop-test .left))
+    from-all (s .pre .0) (l .inv) (omega (arith, c .loop-test .left))
 
 pub path-of-spec : {M : Type 1} → statement M
 path-of-spec =

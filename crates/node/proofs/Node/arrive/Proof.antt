@@ -16,17 +16,19 @@ abbrev start : tie.After-known-told → tie.Start
 start c = c .before .before .before .before .before .before .before .before .before .before .before
 
 -- the place that is found is the youngest match's
-place : (c : tie.After-known-told) →
-    foundIn (start c .args .self .queue) (At (c .before .found .given .0 .0)) ≡
-    youngestTag (view (start c .args .m .now) .fixed .address) (view (start c .args .m .now) .fixed .address (start c .args .t)) (tagsOf (start c .args .self .queue))
+place : (c : tie.After-known-told) → let a = start c .args in
+    foundIn (a .self .queue) (At (c .before .found .given .0 .0)) ≡
+    youngestTag (view (a .m .now) .fixed .address) (view (a .m .now) .fixed .address (a .t)) (tagsOf (a .self .queue))
 place c = rw (c .before .found .given .1, c .before .before .before .before .before .address-of .ensures) at (c .before .before .before .youngest .ensures)
 
 append-requires : tie.Need-append-requires
 append-requires c κs = search needs
 
 returns : tie.Need-returns
-returns c = let s = c .before .before .before .before .before in
-    full-arrives (s .args .self) (s .args .m .now) (s .args .t) (s .args .q) (s .args .w) (s .pre .0) (c .append .result) (c .append .ensures) (c .before .if1 .taken)
+returns c =
+    let s = c .before .before .before .before .before in
+    let a = s .args in
+    full-arrives (a .self) (a .m .now) (a .t) (a .q) (a .w) (s .pre .0) (c .append .result) (c .append .ensures) (c .before .if1 .taken)
 
 address-of-requires : tie.Need-address-of-requires
 address-of-requires c κs = search needs
@@ -77,7 +79,8 @@ returns-3 c = let met = c .before .before .before in
     let known = older .before in
     let s = start known in
     never-arrives (s .args .self) (s .args .m .now) (s .args .t) (s .args .q) (s .args .w) (known .before .found .given .0 .0) (older .younger .result)
-    (place known) (older .younger .ensures) (saved .operation-at .result) (arriving .operation-at2 .result) (saved .operation-at .ensures) (arriving .operation-at2 .ensures)
+    (place known) (older .younger .ensures)
+    (saved .operation-at .result) (arriving .operation-at2 .result) (saved .operation-at .ensures) (arriving .operation-at2 .ensures)
     (s .pre .0) (c .append3 .result) (c .append3 .ensures) (sym (c .before .enum-told2 .given .1) ∙ met .merge .ensures)
 
 set-operation-requires : tie.Need-set-operation-requires
@@ -101,8 +104,10 @@ returns-4 c = let second = c .before in
     let known = older .before in
     let s = start known in
     merged-arrives (s .args .self) (s .args .m .now) (s .args .t) (s .args .q) (s .args .w) (known .before .found .given .0 .0) (older .younger .result)
-    (place known) (older .younger .ensures) (saved .operation-at .result) (arriving .operation-at2 .result) (saved .operation-at .ensures) (arriving .operation-at2 .ensures)
-    (s .pre .1 .0) (s .pre .1 .1 .0) (known .before .before .before .before .before .before .before .if1 .left) _ (sym (one .both .given .1) ∙ met .merge .ensures)
+    (place known) (older .younger .ensures)
+    (saved .operation-at .result) (arriving .operation-at2 .result) (saved .operation-at .ensures) (arriving .operation-at2 .ensures)
+    (s .pre .1 .0) (s .pre .1 .1 .0) (known .before .before .before .before .before .before .before .if1 .left) _
+    (sym (one .both .given .1) ∙ met .merge .ensures)
     _ _ (first .set-operation .ensures) (second .set-operation2 .ensures) (c .push .result) (c .push .ensures .0) (c .push .ensures .1)
 
 pub arrive-spec : {M : Type 1} → statement M

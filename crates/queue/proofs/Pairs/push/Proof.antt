@@ -16,11 +16,8 @@ add-self c = search needs
 
 returns : tie.Need-returns
 returns c =
-    let s = c .before .before in
-    let l = s .args .self in
-    let firsts = c .before .with-highest in
-    let seconds = c .with-highest2 in
-    (pairs-push (l .firsts) (l .seconds) (l .len) (s .args .first) (s .args .second) (firsts .result) (seconds .result) (firsts .ensures) (seconds .ensures), omega arith)
+    let l = c .before .before .args .self in
+    (pairs-push (l .firsts) (l .seconds) (l .len) (c .before .with-highest .ensures) (c .with-highest2 .ensures), omega arith)
 
 pub push-spec : {M : Type 1} → statement M
 push-spec = tie.close (tie.spec with-highest-requires with-highest-requires-2 add-self returns)

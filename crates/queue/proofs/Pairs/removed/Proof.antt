@@ -18,9 +18,9 @@ returns : tie.Need-returns
 returns c =
     let s = c .before .before .before in
     let l = s .args .self in
-    let firsts = c .before .before .without-byte in
-    let seconds = c .before .without-byte2 in
-    (pairs-without (l .firsts) (l .seconds) (l .len) (s .args .i) (firsts .result) (seconds .result) (s .pre .1) (firsts .ensures) (seconds .ensures), omega (arith, s .pre .0))
+    let firsts = c .before .before .without-byte .ensures in
+    let seconds = c .before .without-byte2 .ensures in
+    (pairs-without (l .firsts) (l .seconds) (l .len) (s .pre .1) firsts seconds, omega (arith, s .pre .0))
 
 pub removed-spec : {M : Type 1} → statement M
 removed-spec = tie.close (tie.spec without-byte-requires without-byte-requires-2 sub-self returns)

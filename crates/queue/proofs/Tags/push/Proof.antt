@@ -14,7 +14,7 @@ add-self c = search needs
 returns : tie.Need-returns
 returns c =
     let s = c .before .before in
-    (tags-push (s .args .self .items) (s .args .self .len) (s .args .t) (c .before .with-lowest .result) (s .pre) (c .before .with-lowest .ensures), omega arith)
+    (tags-push (s .args .self .items) (s .args .self .len) (s .pre) (c .before .with-lowest .ensures), omega arith)
 
 pub push-spec : {M : Type 1} → statement M
 push-spec = tie.close (tie.spec with-lowest-requires add-self returns)

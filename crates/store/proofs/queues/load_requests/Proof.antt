@@ -24,10 +24,12 @@ request-count-requires : tie.Need-request-count-requires
 request-count-requires c κs = c .before .pre .0
 
 returns : tie.Need-returns
-returns c = let s = c .before .before in (
-  requests-is (s .args .m .now) (s .args .level) (s .args .position) (s .pre .0 .1, s .pre .0 .2) (s .pre .0 .0) (c .request-count .result) (c .request-count .ensures .0),
-  omega (arith, c .request-count .ensures .0, s .pre .1),
-)
+returns c =
+    let s = c .before .before in
+    let on = s .pre .0 in
+    let n = c .request-count in
+    let is = requests-is (s .args .m .now) (s .args .level) (s .args .position) (on .1, on .2) (on .0) (n .result) (n .ensures .0) in
+    (is, omega (arith, n .ensures .0, s .pre .1))
 
 pub load-requests-spec : {M : Type 1} → statement M
 load-requests-spec =

@@ -15,8 +15,10 @@ element-copy-out-one-less : tie.Need-element-copy-out-one-less
 element-copy-out-one-less c = search needs
 
 one-less-requires : tie.Need-one-less-requires
-one-less-requires c κs = let s = c .before in
-    (s .pre .1 .0 .2, omega (arith, requests-length (s .args .m .now) (s .args .level) (s .args .position) (s .pre .1 .0 .1, s .pre .1 .0 .2) (s .pre .1 .0 .0), s .pre .1 .1))
+one-less-requires c κs =
+    let s = c .before in
+    let on = s .pre .1 .0 in
+    (on .2, omega (arith, requests-length (s .args .m .now) (s .args .level) (s .args .position) (on .1, on .2) (on .0), s .pre .1 .1))
 
 mul-m : tie.Need-mul-m
 mul-m c = search needs
@@ -25,8 +27,10 @@ element-write-m : tie.Need-element-write-m
 element-write-m c = search needs
 
 returns : tie.Need-returns
-returns c = let s = c .before .before in
-    request-popped (s .args .m .now) (s .pre .0) (s .args .level) (s .args .position) (s .pre .1 .0 .1, s .pre .1 .0 .2) (s .pre .1 .0 .0) _ (s .pre .1 .1) (c .one-less .ensures)
+returns c =
+    let s = c .before .before in
+    let on = s .pre .1 .0 in
+    request-popped (s .args .m .now) (s .pre .0) (s .args .level) (s .args .position) (on .1, on .2) (on .0) _ (s .pre .1 .1) (c .one-less .ensures)
 
 pub pop-request-spec : {M : Type 1} → statement M
 pop-request-spec =

@@ -39,8 +39,10 @@ element-copy-out-one-more : tie.Need-element-copy-out-one-more
 element-copy-out-one-more c = search needs
 
 one-more-requires : tie.Need-one-more-requires
-one-more-requires c κs = let s = c .before .before .before in
-    (s .pre .1 .0 .1, omega (arith, reply-count-kept (s .args .m .now) (s .pre .0) (s .args .level) (s .args .position) (s .pre .1 .0) (c .before .with-lowest .result), s .pre .1 .1))
+one-more-requires c κs =
+    let s = c .before .before .before in
+    let kept = reply-count-kept (s .args .m .now) (s .pre .0) (s .args .level) (s .args .position) (s .pre .1 .0) (c .before .with-lowest .result) in
+    (s .pre .1 .0 .1, omega (arith, kept, s .pre .1 .1))
 
 mul-m-2 : tie.Need-mul-m-2
 mul-m-2 c = search needs
@@ -49,8 +51,10 @@ element-write-m-2 : tie.Need-element-write-m-2
 element-write-m-2 c = search needs
 
 returns : tie.Need-returns
-returns c = let s = c .before .before .before .before in
-    reply-pushed (s .args .m .now) (s .pre .0) (s .args .level) (s .args .position) (s .pre .1 .0) (s .args .t) _ _ (s .pre .1 .1) (c .before .before .with-lowest .ensures) (c .one-more .ensures)
+returns c =
+    let s = c .before .before .before .before in
+    let pushed = c .before .before .with-lowest .ensures in
+    reply-pushed (s .args .m .now) (s .pre .0) (s .args .level) (s .args .position) (s .pre .1 .0) (s .args .t) _ _ (s .pre .1 .1) pushed (c .one-more .ensures)
 
 pub push-reply-spec : {M : Type 1} → statement M
 push-reply-spec =

@@ -17,8 +17,10 @@ element-write-m : tie.Need-element-write-m
 element-write-m c = search needs
 
 returns : tie.Need-returns
-returns c = let s = c .before .before in
-    next-again (s .args .m .now) (s .args .e) (s .pre .1 .0) (s .pre .0) (s .args .n) (s .pre .1 .1 .0) (c .if1 .taken) (next-filled (s .args .m .now) (s .args .e) (s .pre .1 .0) (s .pre .1 .1 .1))
+returns c =
+    let s = c .before .before in
+    let had = next-filled (s .args .m .now) (s .args .e) (s .pre .1 .0) (s .pre .1 .1 .1) in
+    next-again (s .args .m .now) (s .args .e) (s .pre .1 .0) (s .pre .0) (s .args .n) (s .pre .1 .1 .0) (c .if1 .taken) had
 
 element-copy-out-with-length : tie.Need-element-copy-out-with-length
 element-copy-out-with-length c = search needs

@@ -18,8 +18,10 @@ length-in-requires : tie.Need-length-in-requires
 length-in-requires c κs = c .before .pre .2
 
 returns : tie.Need-returns
-returns c = let s = c .before .before in
-    (c .length-in .ensures .0 ∙ sym (requests-length (s .args .m .now) (s .args .level) (s .args .position) (s .pre .1, s .pre .2) (s .pre .0)), c .length-in .ensures .1)
+returns c =
+    let s = c .before .before in
+    let n = c .length-in .ensures in
+    (n .0 ∙ sym (requests-length (s .args .m .now) (s .args .level) (s .args .position) (s .pre .1, s .pre .2) (s .pre .0)), n .1)
 
 pub request-count-spec : {M : Type 1} → statement M
 request-count-spec =

@@ -35,9 +35,11 @@ returns c = let had = c .before .before .before in
     next-first (s .args .m .now) (s .args .e) (s .pre .1 .0) (s .pre .0) (s .args .n) (s .pre .1 .1) (had .if1 .taken) _ (c .one-more .ensures)
 
 returns-2 : tie.Need-returns-2
-returns-2 c = let had = c .before .before in
+returns-2 c =
+    let had = c .before .before in
     let s = had .before .before .before in
-    next-again (s .args .m .now) (s .args .e) (s .pre .1 .0) (s .pre .0) (s .args .n) (s .pre .1 .1) (had .if1 .taken) (λ z. c .if2 .left (c .before .length-in .ensures .0 ∙ z))
+    next-again (s .args .m .now) (s .args .e) (s .pre .1 .0) (s .pre .0) (s .args .n) (s .pre .1 .1) (had .if1 .taken)
+    (λ z. c .if2 .left (c .before .length-in .ensures .0 ∙ z))
 
 with-length-requires : tie.Need-with-length-requires
 with-length-requires c κs = search needs

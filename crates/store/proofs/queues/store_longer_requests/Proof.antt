@@ -30,10 +30,11 @@ element-copy-out-one-more : tie.Need-element-copy-out-one-more
 element-copy-out-one-more c = search needs
 
 one-more-requires : tie.Need-one-more-requires
-one-more-requires c κs = let s = c .before in (
-  s .pre .1 .0 .2,
-  omega (arith, request-count-kept (s .args .m .now) (s .pre .0) (s .args .level) (s .args .position) (s .pre .1 .0 .1, s .pre .1 .0 .2) (s .pre .1 .0 .0) (s .args .queue .items), s .pre .1 .1),
-)
+one-more-requires c κs =
+    let s = c .before in
+    let on = s .pre .1 .0 in
+    let kept = request-count-kept (s .args .m .now) (s .pre .0) (s .args .level) (s .args .position) (on .1, on .2) (on .0) (s .args .queue .items) in
+    (on .2, omega (arith, kept, s .pre .1 .1))
 
 mul-m-3 : tie.Need-mul-m-3
 mul-m-3 c = search needs
@@ -42,9 +43,12 @@ element-write-m-2 : tie.Need-element-write-m-2
 element-write-m-2 c = search needs
 
 returns : tie.Need-returns
-returns c = let s = c .before .before in
-    let kept = request-count-kept (s .args .m .now) (s .pre .0) (s .args .level) (s .args .position) (s .pre .1 .0 .1, s .pre .1 .0 .2) (s .pre .1 .0 .0) (s .args .queue .items) in
-    requests-stored (s .args .m .now) (s .pre .0) (s .args .level) (s .args .position) (s .pre .1 .0 .1, s .pre .1 .0 .2) (s .pre .1 .0 .0) (s .args .queue .items) _ _ (s .args .queue .len)
+returns c =
+    let s = c .before .before in
+    let on = s .pre .1 .0 in
+    let queue = s .args .queue in
+    let kept = request-count-kept (s .args .m .now) (s .pre .0) (s .args .level) (s .args .position) (on .1, on .2) (on .0) (queue .items) in
+    requests-stored (s .args .m .now) (s .pre .0) (s .args .level) (s .args .position) (on .1, on .2) (on .0) (queue .items) _ _ (queue .len)
     (omega (arith, kept, s .pre .1 .1)) (c .one-more .ensures)
 
 pub store-longer-requests-spec : {M : Type 1} → statement M

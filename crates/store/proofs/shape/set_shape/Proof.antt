@@ -74,7 +74,8 @@ element-write-m-8 c = search needs
 returns : tie.Need-returns
 returns c = let s = c .before .before .before .before .before .before .before .before in
     shape-set (s .args .m .now) (s .pre .0) (s .args .k) (s .args .q) (s .args .w) (s .args .count) _ _ _ _ (s .pre .1)
-    (rw (c .before .before .before .before .before .before .before .at-most-64 .ensures) at (c .before .before .before .before .before .before .low-marks .ensures))
+    (rw (c .before .before .before .before .before .before .before .at-most-64 .ensures) at
+    (c .before .before .before .before .before .before .low-marks .ensures))
     (rw (c .before .before .before .before .before .at-most-642 .ensures) at (c .before .before .before .before .low-marks2 .ensures))
     (rw (c .before .before .before .at-most-643 .ensures) at (c .before .before .low-marks3 .ensures))
     (rw (c .before .at-most-644 .ensures) at (c .low-marks4 .ensures))
