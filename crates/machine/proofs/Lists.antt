@@ -1,5 +1,5 @@
 -- General laws: the lists of the elements one after another, a stack of lists, and what a count says of a list.
-use Prim.Native.Nat.{ℕ, zero, suc, _+_, _≤_, _<_}
+use Prim.Native.Nat.{ℕ, zero, suc, _≤_, _<_}
 use mathlib.Core.Path.{_≡_, refl, sym, _∙_, ap}
 use mathlib.Core.Logic.{_≢_}
 use mathlib.Core.Bool.{Bool, true, false}
@@ -129,7 +129,8 @@ count-split x (y ∷ ys) h = by-cases (ℕ-discrete y x)
 pub before-append : (x y : ℕ) (xs ys : List ℕ) → 1 ≤ count itself x xs → 1 ≤ count itself y ys → Before x y (xs ++ ys)
 before-append x y xs ys h g = go (count-split x xs h) (count-split y ys g)
   where
-    go : (older : List ℕ) × (younger : List ℕ) × (xs ≡ older ++ (x ∷ younger)) → (older : List ℕ) × (younger : List ℕ) × (ys ≡ older ++ (y ∷ younger)) → Before x y (xs ++ ys)
+    go : (older : List ℕ) × (younger : List ℕ) × (xs ≡ older ++ (x ∷ younger))
+        → (older : List ℕ) × (younger : List ℕ) × (ys ≡ older ++ (y ∷ younger)) → Before x y (xs ++ ys)
     go (o, n, e) (o′, n′, e′) = (o, n ++ o′, n′, rw (e, e′) (simp append-assoc))
 
 -- a list of which each number stands as often in another is no longer

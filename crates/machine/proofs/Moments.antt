@@ -32,7 +32,9 @@ module _ (S : Setup) where
       (λ b. let after : Ran S = elim b [ true ↦ r | false ↦ drainRun S n (record { state = runEvents S (round k N) (r .state); rounds = suc (r .rounds) }) ] in
       after .state ≡ runEvents S (elim b [ true ↦ [] | false ↦ round k N ++ drainEvents S n (runEvents S (round k N) (r .state)) ]) (r .state))
       (allAnswered S (r .state)) (λ _. refl)
-      (λ _. drain-events n (record { state = runEvents S (round k N) (r .state); rounds = suc (r .rounds) }) ∙ sym (events-append (round k N) (drainEvents S n (runEvents S (round k N) (r .state))) (r .state)))
+      (λ _.
+      let after = runEvents S (round k N) (r .state) in
+      drain-events n (record { state = after; rounds = suc (r .rounds) }) ∙ sym (events-append (round k N) (drainEvents S n after) (r .state)))
 
   pub acts-append : (xs ys : List Act) (r : Ran S) → runActs S (xs ++ ys) r ≡ runActs S ys (runActs S xs r)
   unfolding runActs
