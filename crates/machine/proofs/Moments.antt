@@ -94,7 +94,8 @@ module _ (S : Setup) where
     every-two T later nil st h = next nil ended
     every-two T later (cons {x = e} {xs = es} f fs) st h = next (later st h (e ∷ es) (cons f fs)) (every-two T later fs (step S e st) (kept e f st h))
 
-  -- what each step of an event that fits keeps holds at every moment, and after the run
+  -- what each step of an event that fits keeps holds at every moment, and after the run; what each move keeps each step keeps
+  -- (`step-keeps`), so a new invariant is one application of this
   module _ (law : Lawful S) (P : State S → Type 0) (kept : Kept Fits P) (acts : List Act) (named : All (Named k) acts) where
     pub every-moment : (st : State S) → P st → All P (moments S acts st)
     unfolding moments
