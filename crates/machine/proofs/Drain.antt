@@ -58,7 +58,8 @@ module _ (S : Setup) where
   abbrev afterRound : Ran S → Ran S
   afterRound r = record { state = runEvents S (round k N) (r .state); rounds = suc (r .rounds) }
 
-  drain-cases : (P : Ran S → Type 0) (n : ℕ) (r : Ran S) → (allAnswered S (r .state) ≡ true → P r) → (allAnswered S (r .state) ≡ false → P (drainRun S n (afterRound r))) → P (drainRun S (suc n) r)
+  drain-cases : (P : Ran S → Type 0) (n : ℕ) (r : Ran S) → (allAnswered S (r .state) ≡ true → P r)
+      → (allAnswered S (r .state) ≡ false → P (drainRun S n (afterRound r))) → P (drainRun S (suc n) r)
   unfolding drainRun
   drain-cases P n r f g = test-cases (λ b. P (elim b [ true ↦ r | false ↦ drainRun S n (afterRound r) ])) (allAnswered S (r .state)) f g
 
@@ -85,7 +86,8 @@ module _ (S : Setup) where
 
       -- requests from level k down
       no-requests-modules : (q : ℕ) → st .requests k q ≡ []
-      no-requests-modules q = by-cases (decLt q N) (λ (i : q < N). unstick (round-modules k N idle-all q i) (λ _. no-replies k (omega arith) q)) (outside-requests k q)
+      no-requests-modules q =
+          by-cases (decLt q N) (λ (i : q < N). unstick (round-modules k N idle-all q i) (λ _. no-replies k (omega arith) q)) (outside-requests k q)
 
       forward-idle : (s q : ℕ) → s < k → q < N → Stuck S (st .requests s q) (st .requests (suc s))
       forward-idle zero q l i = round-issues k N idle-all q i
@@ -93,10 +95,12 @@ module _ (S : Setup) where
 
       no-requests : (d s : ℕ) → s + d ≡ k → (q : ℕ) → st .requests s q ≡ []
       no-requests zero s e q = let z : s ≡ k = omega arith in rw z (no-requests-modules q)
-      no-requests (suc d) s e q = by-cases (decLt q N) (λ (i : q < N). unstick (forward-idle s q (omega arith) i) (no-requests d (suc s) (omega arith))) (outside-requests s q)
+      no-requests (suc d) s e q =
+          by-cases (decLt q N) (λ (i : q < N). unstick (forward-idle s q (omega arith) i) (no-requests d (suc s) (omega arith))) (outside-requests s q)
 
       -- whoever waits, waits for one that waits further up
-      waits-for : (n : ℕ) → ((u s : ℕ) → places u ≡ 4 * suc s + 1 → k ≤ s + n → ⊥) → (s : ℕ) → k ≤ s + suc n → (f : ℕ) → Above (suc s) (places f) → Spot S (places f) → ⊥
+      waits-for : (n : ℕ) → ((u s : ℕ) → places u ≡ 4 * suc s + 1 → k ≤ s + n → ⊥) → (s : ℕ) → k ≤ s + suc n → (f : ℕ) → Above (suc s) (places f)
+          → Spot S (places f) → ⊥
       waits-for n further s l f ab (atEnd h) = omega arith
       waits-for n further s l f ab (atRequest s′ i h) = omega (arith, rw (no-requests (k - s′) s′ (omega arith) (place S f s′)) at (H .inRequests f s′ h))
       waits-for n further s l f ab (atWait s′ i h) = further f s′ h (omega arith)
@@ -127,17 +131,20 @@ module _ (S : Setup) where
     pub events-live : {es : List Event} → All (Fits S) es → (st : State S) (n : ℕ) → Live S words st n → Live S words (runEvents S es st) n
     events-live fs st n = after-events S (λ x. Live S words x n) (step-keeps-live n) fs st
 
-    events-fall : (es : List Event) → All (Fits S) es → (st : State S) (n : ℕ) → Live S words st (suc n) → Live S words (runEvents S es st) n ⊎ All (λ e. Why S e st) es
+    events-fall : (es : List Event) → All (Fits S) es → (st : State S) (n : ℕ) → Live S words st (suc n)
+        → Live S words (runEvents S es st) n ⊎ All (λ e. Why S e st) es
     unfolding runEvents
     events-fall [] f st n L = inr nil
     events-fall (e ∷ es) (cons f fs) st n L = joined (go (step S e st) (step-does S st law e f) (events-fall es fs st n L))
       where
-        go : (st′ : State S) → Does S (Why S e st) st st′ → Live S words (runEvents S es st) n ⊎ All (λ e. Why S e st) es → Live S words (runEvents S es st′) n ⊎ (Why S e st × All (λ e. Why S e st) es)
+        go : (st′ : State S) → Does S (Why S e st) st st′ → Live S words (runEvents S es st) n ⊎ All (λ e. Why S e st) es
+            → Live S words (runEvents S es st′) n ⊎ (Why S e st × All (λ e. Why S e st) es)
         go st′ (idle w) (inl x) = inl x
         go st′ (idle w) (inr x) = inr (w, x)
         go st′ (moved m) x = let z = move-live S law words m (suc n) L in inl (events-live fs st′ n (live-more S words n (omega (arith, z .1)) (z .2)))
 
-        joined : Live S words (runEvents S es (step S e st)) n ⊎ (Why S e st × All (λ e. Why S e st) es) → Live S words (runEvents S es (step S e st)) n ⊎ All (λ e. Why S e st) (e ∷ es)
+        joined : Live S words (runEvents S es (step S e st)) n ⊎ (Why S e st × All (λ e. Why S e st) es)
+            → Live S words (runEvents S es (step S e st)) n ⊎ All (λ e. Why S e st) (e ∷ es)
         joined (inl x) = inl x
         joined (inr x) = inr (cons (x .0) (x .1))
 
@@ -150,7 +157,8 @@ module _ (S : Setup) where
 
     -- ---- drains
     -- the rounds run come off what is left
-    pub drain-live : (n b : ℕ) (r : Ran S) → Live S words (r .state) b → (b′ : ℕ) × (drainRun S n r .rounds + b′ ≤ r .rounds + b) × Live S words (drainRun S n r .state) b′
+    pub drain-live : (n b : ℕ) (r : Ran S) → Live S words (r .state) b
+        → (b′ : ℕ) × (drainRun S n r .rounds + b′ ≤ r .rounds + b) × Live S words (drainRun S n r .state) b′
     unfolding drainRun
     drain-live zero b r L = (b, omega arith, L)
     drain-live (suc n) zero r L = drain-cases (λ x. (b′ : ℕ) × (x .rounds + b′ ≤ r .rounds + 0) × Live S words (x .state) b′) n r
@@ -164,14 +172,16 @@ module _ (S : Setup) where
     drain-answers zero zero r L l = none-left (r .state) L
     drain-answers zero (suc b) r L l = absurd (omega arith)
     drain-answers (suc n) zero r L l = drain-cases (λ x. allAnswered S (x .state) ≡ true) n r (λ e. e) (λ e. test-clash (none-left (r .state) L) e)
-    drain-answers (suc n) (suc b) r L l = drain-cases (λ x. allAnswered S (x .state) ≡ true) n r (λ e. e) (λ e. drain-answers n b (afterRound r) (round-live (r .state) b e L) (omega arith))
+    drain-answers (suc n) (suc b) r L l =
+        drain-cases (λ x. allAnswered S (x .state) ≡ true) n r (λ e. e) (λ e. drain-answers n b (afterRound r) (round-live (r .state) b e L) (omega arith))
 
     -- the rounds of all drains come off what is left
     pub acts-live : (acts : List Act) → All (Named k) acts → (b : ℕ) (r : Ran S) → Live S words (r .state) b
         → (b′ : ℕ) × (runActs S acts r .rounds + b′ ≤ r .rounds + b) × Live S words (runActs S acts r .state) b′
     unfolding runActs runAct
     acts-live [] f b r L = (b, omega arith, L)
-    acts-live (event e ∷ as′) (cons f fs) b r L = acts-live as′ fs b (record { state = step S e (r .state); rounds = r .rounds }) (step-keeps-live b e f (r .state) L)
+    acts-live (event e ∷ as′) (cons f fs) b r L =
+        acts-live as′ fs b (record { state = step S e (r .state); rounds = r .rounds }) (step-keeps-live b e f (r .state) L)
     acts-live (drain n ∷ as′) (cons f fs) b r L =
         let z = drain-live n b r L in
         let y = acts-live as′ fs (z .0) (drainRun S n r) (z .2) in

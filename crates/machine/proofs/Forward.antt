@@ -16,19 +16,19 @@ use Rattle.lists.proofs.Stacks.{concat-append, stack, stack-onward}
 use Rattle.machine.specs.Setup.{Setup, Message, WaitRecord, Reply, place}
 use Rattle.machine.specs.Arrival.{recordsOf}
 use Rattle.machine.specs.State.{State, withRequests, withWaits}
-use Rattle.machine.specs.Steps.{nodeAt, sent}
 use Rattle.machine.specs.Lawful.{Lawful}
 use Rattle.machine.proofs.Labels.{relabel}
 use Rattle.machine.proofs.Records.{records-none}
 use Rattle.machine.proofs.Tags.{messageTag, replyTag}
 use Rattle.machine.proofs.Tree.{inOrder, treeOf, tree-onward}
-use Rattle.machine.proofs.Moves.{withBehind}
-use Rattle.machine.proofs.Invariant.{Invariant, Requested, segment, kept, kept-append, kept-far, waiting-relabel, links, collected-relabel, far-waits, far-replies, other-requests}
+use Rattle.machine.proofs.Moves.{afterAppend}
+use Rattle.machine.proofs.Invariant.{Invariant, RequestedAt, segment, kept, kept-append, kept-far, links}
+use Rattle.machine.proofs.Invariant.{waiting-relabel, collected-relabel, far-waits, far-replies, other-requests}
 
 -- ---- the oldest message of a queue
 module _ (S : Setup) (words : ℕ → S .Word) (places : ℕ → ℕ) (st : State S) (I : Invariant S words places st)
     (s p : ℕ) (m : Message S) (rest : List (Message S)) (is : st .requests s p ≡ m ∷ rest) where
-  pub oldest : (places (m .tag) ≡ 4 * s) × Requested S (st .waits) s p m
+  pub oldest : RequestedAt S places (st .waits) s p m
   oldest = all-head (rw is at (I .requested s p))
 
   pub oldest-rest : All (λ (y : Message S). y .tag ≢ m .tag) rest
@@ -45,7 +45,7 @@ module _ (S : Setup) (words : ℕ → S .Word) (places : ℕ → ℕ) (st : Stat
 
   -- no record for it one level up, so its tree is the same there
   none-onward : recordsOf S (m .tag) (st .waits (suc s) (place S (m .tag) (suc s))) ≡ []
-  none-onward = records-none S (m .tag) (all-map (λ r h e. let z : places (r .first) ≡ places (m .tag) = ap places e in omega (arith, h .1 .1 .0, oldest .0)) (I .waiting (suc s) (place S (m .tag) (suc s))))
+  none-onward = records-none S (m .tag) (all-map (λ r h e. omega (arith, h .1 .1 .0, oldest .0, ap places e)) (I .waiting (suc s) (place S (m .tag) (suc s))))
 
   pub same-tree : treeOf S (st .waits) (suc s) (m .tag) ≡ treeOf S (st .waits) s (m .tag)
   same-tree = tree-onward S (st .waits) s (m .tag) none-onward
@@ -58,7 +58,7 @@ module _ (S : Setup) (law : Lawful S) (words : ℕ → S .Word) (places : ℕ �
   abbrev p′ : ℕ
   p′ = place S (m .tag) (suc s)
 
-  abbrev front : (places (m .tag) ≡ 4 * s) × Requested S (st .waits) s p m
+  abbrev front : RequestedAt S places (st .waits) s p m
   front = oldest S words places st I s p m rest is
 
   abbrev tree-same : treeOf S (st .waits) (suc s) (m .tag) ≡ treeOf S (st .waits) s (m .tag)
@@ -68,35 +68,44 @@ module _ (S : Setup) (law : Lawful S) (words : ℕ → S .Word) (places : ℕ �
   abbrev after : State S
   after = withRequests S (update2 (update2 (st .requests) s p rest) (suc s) p′ (st .requests (suc s) p′ ++ (m ∷ []))) st
 
-  pub after-is : after ≡ sent S st s p rest p′ (withBehind S (nodeAt S st (suc s) p′) m) (st .merges)
+  pub after-is : after ≡ afterAppend S st s p m rest
   after-is i = withWaits S (sym (update2-idle (st .waits) (suc s) p′) i) after
+
+  far : (e a j : ℕ) → position e a j ≢ place S (m .tag) j → kept S e a (inOrder S (treeOf S (st .waits) j (m .tag))) ≡ []
+  far e a j = kept-far S law (st .waits) (links S words places st I) e a j (m .tag)
 
   forward-line : (e a : ℕ) → stack (segment S after e a) k ≡ stack (segment S st e a) k
   forward-line e a =
       let a₁ : s ≢ suc s = omega arith in
       let a₂ : suc s ≢ s = omega arith in
-      stack-onward (segment S st e a) (segment S after e a) s (kept S e a (inOrder S (treeOf S (st .waits) s (m .tag))))
+      let own = inOrder S (treeOf S (st .waits) s (m .tag)) in
+      stack-onward (segment S st e a) (segment S after e a) s (kept S e a own)
       (λ i n n′. rw (update2-level, update2-level))
       (by-cases (ℕ-discrete (position e a s) p)
       (λ (z : position e a s ≡ p). rw (update2-level, z, update2-same, is, kept-append S))
-      (λ (n : position e a s ≢ p). rw (kept-far S law (st .waits) (links S words places st I) e a s (m .tag) (λ z. n (z ∙ front .1 .0)), update2-level, update2-position)))
+      (λ (n : position e a s ≢ p). rw (far e a s (λ z. n (z ∙ front .1 .0)), update2-level, update2-position)))
       (by-cases (ℕ-discrete (position e a (suc s)) p′)
-      (λ (z : position e a (suc s) ≡ p′). rw (z, update2-same, concat-append, kept-append S, tree-same, append-nil (inOrder S (treeOf S (st .waits) s (m .tag)))))
-      (λ (n : position e a (suc s) ≢ p′). rw (← tree-same, kept-far S law (st .waits) (links S words places st I) e a (suc s) (m .tag) n, update2-position, update2-level, append-nil)))
+      (λ (z : position e a (suc s) ≡ p′). rw (z, update2-same, concat-append, kept-append S, tree-same, append-nil own))
+      (λ (n : position e a (suc s) ≢ p′). rw (← tree-same, far e a (suc s) n, update2-position, update2-level, append-nil)))
       k lt
 
   forward-after : Invariant S words (update places (m .tag) (4 * suc s)) after
   forward-after = record {
-    requested = update2-ind _ _ _ _ (λ j q l. All (λ (y : Message S). (update places (m .tag) (4 * suc s) (y .tag) ≡ 4 * j) × Requested S (st .waits) j q y) l)
-        (all-append (relabel (messageTag S) places (m .tag) (4 * suc s) (4 * suc s) (I .requested (suc s) _) (oldest-requests S words places st I s p m rest is (suc s) _ (omega arith)))
+    requested = update2-ind _ _ _ _ (λ j q l. All (RequestedAt S (update places (m .tag) (4 * suc s)) (st .waits) j q) l)
+        (all-append (relabel (messageTag S) places (m .tag) (4 * suc s) (4 * suc s) (I .requested (suc s) _)
+        (oldest-requests S words places st I s p m rest is (suc s) _ (omega arith)))
         (cons (update-same places (m .tag) (4 * suc s), (refl, rw tree-same (front .1 .1), (λ x. rw tree-same (front .1 .2 x)), front .1 .3)) nil))
-        (λ j q n. update2-ind _ _ _ _ (λ j q l. All (λ (y : Message S). (update places (m .tag) (4 * suc s) (y .tag) ≡ 4 * j) × Requested S (st .waits) j q y) l)
+        (λ j q n. update2-ind _ _ _ _ (λ j q l. All (RequestedAt S (update places (m .tag) (4 * suc s)) (st .waits) j q) l)
         (relabel (messageTag S) places (m .tag) (4 * s) (4 * suc s) (all-tail (rw is at (I .requested s p))) (oldest-rest S words places st I s p m rest is))
-        (λ j q n′. relabel (messageTag S) places (m .tag) (4 * j) (4 * suc s) (I .requested j q) (oldest-requests S words places st I s p m rest is j q n′)) j q);
+        (λ j q n′. relabel (messageTag S) places (m .tag) (4 * j) (4 * suc s) (I .requested j q)
+        (oldest-requests S words places st I s p m rest is j q n′)) j q);
     requestedOnce = update2-ind _ _ _ _ (λ j q l. Distinct (messageTag S) l)
         (distinct-append (messageTag S) _ m (I .requestedOnce (suc s) _) (oldest-requests S words places st I s p m rest is (suc s) _ (omega arith)))
-        (λ j q n. update2-ind _ _ _ _ (λ j q l. Distinct (messageTag S) l) (distinct-tail (messageTag S) m rest (rw is at (I .requestedOnce s p))) (λ j q n′. I .requestedOnce j q) j q);
-    waiting = λ j q. waiting-relabel S places (m .tag) (4 * suc s) j q (λ h. omega (arith, h, front .0)) (I .waiting j q) (oldest-waits S words places st I s p m rest is j q);
+        (λ j q n. update2-ind _ _ _ _ (λ j q l. Distinct (messageTag S) l) (distinct-tail (messageTag S) m rest (rw is at (I .requestedOnce s p)))
+        (λ j q n′. I .requestedOnce j q) j q);
+    waiting =
+        λ j q. waiting-relabel S places (m .tag) (4 * suc s) j q (λ h. omega (arith, h, front .0)) (I .waiting j q)
+        (oldest-waits S words places st I s p m rest is j q);
     waitingOnce = I .waitingOnce;
     replying = λ j q. relabel (replyTag S) places (m .tag) (4 * j + 2) (4 * suc s) (I .replying j q) (oldest-replies S words places st I s p m rest is j q);
     replyingOnce = I .replyingOnce;
@@ -105,5 +114,5 @@ module _ (S : Setup) (law : Lawful S) (words : ℕ → S .Word) (places : ℕ �
     line = λ e a. rw (forward-line e a) (I .line e a);
   }
 
-  pub forward-keeps : Invariant S words (update places (m .tag) (4 * suc s)) (sent S st s p rest p′ (withBehind S (nodeAt S st (suc s) p′) m) (st .merges))
+  pub forward-keeps : Invariant S words (update places (m .tag) (4 * suc s)) (afterAppend S st s p m rest)
   forward-keeps = subst (Invariant S words (update places (m .tag) (4 * suc s))) after-is forward-after

@@ -55,13 +55,16 @@ module _ (S : Setup) where
     where
       off : (t : ℕ) → ¬ ((engineOf t ≡ e) × (addressOf t ≡ a)) → both (eqb (engineOf t) e) (eqb (addressOf t) a) ≡ false
       off t n = test-cases (λ b. both b (eqb (addressOf t) a) ≡ false) (eqb (engineOf t) e)
-          (λ p. test-cases (λ b. b ≡ false) (eqb (addressOf t) a) (λ q. absurd (n (eqb-true (engineOf t) e p, eqb-true (addressOf t) a q))) (λ _. refl)) (λ _. refl)
+          (λ p. test-cases (λ b. b ≡ false) (eqb (addressOf t) a)
+          (λ q. absurd (n (eqb-true (engineOf t) e p, eqb-true (addressOf t) a q))) (λ _. refl))
+          (λ _. refl)
 
   -- ---- what holds
   -- a message stands on its path, has its request's address, and does what the requests of its tree do one after another
   abbrev pub Requested : Waits S → ℕ → ℕ → Message S → Type 0
   Requested waits s p m =
-      (place S (m .tag) s ≡ p) × Faithful S (treeOf S waits s (m .tag)) × ((x : Word) → apply (m .operation) x ≡ runOn S (inOrder S (treeOf S waits s (m .tag))) x) × (m .address ≡ addressOf (m .tag))
+      (place S (m .tag) s ≡ p) × Faithful S (treeOf S waits s (m .tag))
+      × ((x : Word) → apply (m .operation) x ≡ runOn S (inOrder S (treeOf S waits s (m .tag))) x) × (m .address ≡ addressOf (m .tag))
 
   -- a wait record's two requests stand on their paths, and the first is further up
   abbrev pub Waiting : (ℕ → ℕ) → ℕ → ℕ → WaitRecord S → Type 0
@@ -71,16 +74,30 @@ module _ (S : Setup) where
   abbrev pub Replying : Waits S → List (Reply S) → ℕ → ℕ → Reply S → Type 0
   Replying waits log s p r = (place S (r .tag) s ≡ p) × Served S log (treeOf S waits s (r .tag)) (r .value)
 
+  -- each at its place
+  abbrev pub RequestedAt : (ℕ → ℕ) → Waits S → ℕ → ℕ → Message S → Type 0
+  RequestedAt places waits s p m = (places (m .tag) ≡ 4 * s) × Requested waits s p m
+
+  abbrev pub WaitingAt : (ℕ → ℕ) → ℕ → ℕ → WaitRecord S → Type 0
+  WaitingAt places s p r = (places (r .second) ≡ 4 * s + 1) × Waiting places s p r
+
+  abbrev pub ReplyingAt : (ℕ → ℕ) → Waits S → List (Reply S) → ℕ → ℕ → Reply S → Type 0
+  ReplyingAt places waits log s p r = (places (r .tag) ≡ 4 * s + 2) × Replying waits log s p r
+
+  -- the requests that the messages of a list at level s stand for
+  abbrev pub listed : Waits S → ℕ → List (Message S) → List ℕ
+  listed waits s = concat (λ (m : Message S). inOrder S (treeOf S waits s (m .tag)))
+
   -- those of engine e to word a that stand at level s
   abbrev pub segment : State S → ℕ → ℕ → ℕ → List ℕ
-  segment st e a s = kept e a (concat (λ (m : Message S). inOrder S (treeOf S (st .waits) s (m .tag))) (st .requests s (position e a s)))
+  segment st e a s = kept e a (listed (st .waits) s (st .requests s (position e a s)))
 
   pub record Invariant (words : ℕ → Word) (places : ℕ → ℕ) (st : State S) : Type 0 where
-    pub requested : (s p : ℕ) → All (λ (m : Message S). (places (m .tag) ≡ 4 * s) × Requested (st .waits) s p m) (st .requests s p)
+    pub requested : (s p : ℕ) → All (RequestedAt places (st .waits) s p) (st .requests s p)
     pub requestedOnce : (s p : ℕ) → Distinct (messageTag S) (st .requests s p)
-    pub waiting : (s p : ℕ) → All (λ (r : WaitRecord S). (places (r .second) ≡ 4 * s + 1) × Waiting places s p r) (st .waits s p)
+    pub waiting : (s p : ℕ) → All (WaitingAt places s p) (st .waits s p)
     pub waitingOnce : (s p : ℕ) → Distinct (waiterTag S) (st .waits s p)
-    pub replying : (s p : ℕ) → All (λ (r : Reply S). (places (r .tag) ≡ 4 * s + 2) × Replying (st .waits) (reads S (st .order) words) s p r) (st .replies s p)
+    pub replying : (s p : ℕ) → All (ReplyingAt places (st .waits) (reads S (st .order) words) s p) (st .replies s p)
     pub replyingOnce : (s p : ℕ) → Distinct (replyTag S) (st .replies s p)
     pub collected : (t : ℕ) (v : Word) → st .answers t ≡ some v → (places t ≡ 3) × List·Memᴰ (record { tag = t; value = v }) (reads S (st .order) words)
     pub memory : (a : ℕ) → st .words a ≡ runSingly S (st .order) words a
@@ -90,8 +107,8 @@ module _ (S : Setup) where
 
   -- ---- laws that the moves share
   pub waiting-relabel : (places : ℕ → ℕ) (t v j q : ℕ) {xs : List (WaitRecord S)} → (Above j (places t) → Above j v)
-      → All (λ (r : WaitRecord S). (places (r .second) ≡ 4 * j + 1) × Waiting places j q r) xs → All (λ (r : WaitRecord S). r .second ≢ t) xs
-      → All (λ (r : WaitRecord S). (update places t v (r .second) ≡ 4 * j + 1) × Waiting (update places t v) j q r) xs
+      → All (WaitingAt places j q) xs → All (λ (r : WaitRecord S). r .second ≢ t) xs
+      → All (WaitingAt (update places t v) j q) xs
   waiting-relabel places t v j q f h n = all-map2 (λ r k m. (update-other places t v m ∙ k .0, (k .1 .0, above-update places t v j (r .first) f (k .1 .1)))) h n
 
   module _ (words : ℕ → Word) (places : ℕ → ℕ) (st : State S) (I : Invariant words places st) where
@@ -99,7 +116,8 @@ module _ (S : Setup) where
     links s p = all-map (λ r h. h .1 .0) (I .waiting s p)
 
     -- a request that is not collected goes to another place: what is collected stays so
-    pub collected-relabel : (t v : ℕ) → places t ≢ 3 → (u : ℕ) (w : Word) → st .answers u ≡ some w → (update places t v u ≡ 3) × List·Memᴰ (record { tag = u; value = w }) (reads S (st .order) words)
+    pub collected-relabel : (t v : ℕ) → places t ≢ 3 → (u : ℕ) (w : Word) → st .answers u ≡ some w
+        → (update places t v u ≡ 3) × List·Memᴰ (record { tag = u; value = w }) (reads S (st .order) words)
     collected-relabel t v n u w e = let h = I .collected u w e in (update-other places t v (λ z. n (ap places (sym z) ∙ h .0)) ∙ h .0, h .1)
 
     -- a request with a place stands at no other place
@@ -114,7 +132,8 @@ module _ (S : Setup) where
       far-replies j q n = away (replyTag S) places u (4 * j + 2) (omega arith) (I .replying j q)
 
     -- a request in the request queue of level s, position p, stands in no other
-    pub other-requests : (u s p : ℕ) → places u ≡ 4 * s → place S u s ≡ p → (j q : ℕ) → ¬ ((j ≡ s) × (q ≡ p)) → All (λ (y : Message S). y .tag ≢ u) (st .requests j q)
+    pub other-requests : (u s p : ℕ) → places u ≡ 4 * s → place S u s ≡ p → (j q : ℕ) → ¬ ((j ≡ s) × (q ≡ p))
+        → All (λ (y : Message S). y .tag ≢ u) (st .requests j q)
     other-requests u s p at on j q n =
         all-map (λ y k e. let z : j ≡ s = omega (arith, k .0, ap places e) in n (z, sym (k .1 .0) ∙ ap₂ (place S) e z ∙ on)) (I .requested j q)
 

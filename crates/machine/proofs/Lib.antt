@@ -1,3 +1,4 @@
+-- The proofs of the machine: lists and trees, the invariant by moves, steps and rounds, every moment, and demand 3.
 pub mod Labels
 pub mod Tags
 pub mod Records

@@ -32,7 +32,9 @@ module _ (S : Setup) where
       (λ b. let after : Ran S = elim b [ true ↦ r | false ↦ drainRun S n (record { state = runEvents S (round k N) (r .state); rounds = suc (r .rounds) }) ] in
       after .state ≡ runEvents S (elim b [ true ↦ [] | false ↦ round k N ++ drainEvents S n (runEvents S (round k N) (r .state)) ]) (r .state))
       (allAnswered S (r .state)) (λ _. refl)
-      (λ _. drain-events n (record { state = runEvents S (round k N) (r .state); rounds = suc (r .rounds) }) ∙ sym (events-append (round k N) (drainEvents S n (runEvents S (round k N) (r .state))) (r .state)))
+      (λ _.
+      let after = runEvents S (round k N) (r .state) in
+      drain-events n (record { state = after; rounds = suc (r .rounds) }) ∙ sym (events-append (round k N) (drainEvents S n after) (r .state)))
 
   pub acts-append : (xs ys : List Act) (r : Ran S) → runActs S (xs ++ ys) r ≡ runActs S ys (runActs S xs r)
   unfolding runActs
@@ -92,7 +94,8 @@ module _ (S : Setup) where
     every-two T later nil st h = next nil ended
     every-two T later (cons {x = e} {xs = es} f fs) st h = next (later st h (e ∷ es) (cons f fs)) (every-two T later fs (step S e st) (kept e f st h))
 
-  -- what each step of an event that fits keeps holds at every moment, and after the run
+  -- what each step of an event that fits keeps holds at every moment, and after the run; what each move keeps each step keeps
+  -- (`step-keeps`), so a new invariant is one application of this
   module _ (law : Lawful S) (P : State S → Type 0) (kept : Kept Fits P) (acts : List Act) (named : All (Named k) acts) where
     pub every-moment : (st : State S) → P st → All P (moments S acts st)
     unfolding moments

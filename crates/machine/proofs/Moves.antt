@@ -24,19 +24,31 @@ module _ (S : Setup) where
     waiting = n .waiting ++ (record { first = f .tag; second = m .tag; operation = f .operation } ∷ []);
   }
 
+  -- the oldest message m of level s, position p, has gone on, to the end of the queue one level up or into f there
+  abbrev pub afterAppend : State S → ℕ → ℕ → Message S → List (Message S) → State S
+  afterAppend st s p m rest =
+      let to = place S (m .tag) (suc s) in
+      sent S st s p rest to (withBehind (nodeAt S st (suc s) to) m) (st .merges)
+
+  abbrev pub afterMerge : State S → ℕ → ℕ → Message S → (rest older : List (Message S)) → Message S → List (Message S) → Operation → State S
+  afterMerge st s p m rest older f younger o =
+      let to = place S (m .tag) (suc s) in
+      sent S st s p rest to (withMerged (nodeAt S st (suc s) to) m older f younger o) (suc (st .merges))
+
   pub data Move (st : State S) : State S → Type 0 where
     -- the oldest message goes to the end of the queue one level up
-    appending : (s p : ℕ) (m : Message S) (rest : List (Message S)) → s < k → st .requests s p ≡ m ∷ rest
-        → Move st (sent S st s p rest (place S (m .tag) (suc s)) (withBehind (nodeAt S st (suc s) (place S (m .tag) (suc s))) m) (st .merges))
+    appending : (s p : ℕ) (m : Message S) (rest : List (Message S)) → s < k → st .requests s p ≡ m ∷ rest → Move st (afterAppend st s p m rest)
     -- or into a message of its address that has none of that address behind it
-    merging : (s p : ℕ) (m : Message S) (rest older : List (Message S)) (f : Message S) (younger : List (Message S)) (o : Operation) → s < k → st .requests s p ≡ m ∷ rest
-        → st .requests (suc s) (place S (m .tag) (suc s)) ≡ older ++ (f ∷ younger) → f .address ≡ m .address → All (λ (y : Message S). y .address ≢ m .address) younger
+    merging : (s p : ℕ) (m : Message S) (rest older : List (Message S)) (f : Message S) (younger : List (Message S)) (o : Operation)
+        → s < k → st .requests s p ≡ m ∷ rest → st .requests (suc s) (place S (m .tag) (suc s)) ≡ older ++ (f ∷ younger)
+        → f .address ≡ m .address → All (λ (y : Message S). y .address ≢ m .address) younger
         → ((x : Word) → apply o x ≡ apply (m .operation) (apply (f .operation) x))
-        → Move st (sent S st s p rest (place S (m .tag) (suc s)) (withMerged (nodeAt S st (suc s) (place S (m .tag) (suc s))) m older f younger o) (suc (st .merges)))
+        → Move st (afterMerge st s p m rest older f younger o)
     serving : (p : ℕ) (m : Message S) (rest : List (Message S)) → st .requests k p ≡ m ∷ rest → Move st (taken S st p m rest)
     -- a second of the oldest reply is answered, one level down on its own path
-    answering : (s p : ℕ) (t : Reply S) (rest : List (Reply S)) (older : List (WaitRecord S)) (r : WaitRecord S) (younger : List (WaitRecord S)) → st .replies (suc s) p ≡ t ∷ rest
-        → st .waits (suc s) p ≡ older ++ (r ∷ younger) → r .first ≡ t .tag → Move st (split S st s p t (older ++ younger) r (place S (r .second) s))
+    answering : (s p : ℕ) (t : Reply S) (rest : List (Reply S)) (older : List (WaitRecord S)) (r : WaitRecord S) (younger : List (WaitRecord S))
+        → st .replies (suc s) p ≡ t ∷ rest → st .waits (suc s) p ≡ older ++ (r ∷ younger) → r .first ≡ t .tag
+        → Move st (split S st s p t (older ++ younger) r (place S (r .second) s))
     -- the oldest reply goes one level down, where it has no second left
     lowering : (s p : ℕ) (t : Reply S) (rest : List (Reply S)) → st .replies (suc s) p ≡ t ∷ rest → recordsOf S (t .tag) (st .waits (suc s) p) ≡ []
         → Move st (lowered S st s p t rest (place S (t .tag) s))

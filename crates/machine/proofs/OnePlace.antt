@@ -57,23 +57,31 @@ module _ (S : Setup) where
 
   module _ (words : ℕ → Word) (places : ℕ → ℕ) (st : State S) (I : Invariant S words places st) (H : Held S places st) where
     -- ---- whoever stands anywhere stands there, and is a request of the trace
+    by-number : (t : ℕ) {c : ℕ} → c ≡ places t → whereOf c t ≡ whereOf (places t) t
+    by-number t e = ap (λ (c : ℕ). whereOf c t) e
+
     stands : (t : ℕ) (w : Where) → 1 ≤ times S st t w → w ≡ whereOf (places t) t
     stands t (requested s p) h =
         let z = element (messageTag S) t (I .requested s p) h in
-        ap (λ (q : ℕ). requested s q) (sym (z .1 .1 .0) ∙ ap (λ (u : ℕ). place S u s) (z .2)) ∙ sym (where-requested s t) ∙ ap (λ (c : ℕ). whereOf c t) (sym (z .1 .0) ∙ ap places (z .2))
+        ap (λ (q : ℕ). requested s q) (sym (z .1 .1 .0) ∙ ap (λ (u : ℕ). place S u s) (z .2))
+        ∙ sym (where-requested s t) ∙ by-number t (sym (z .1 .0) ∙ ap places (z .2))
     stands t (waiting s p) h =
         let z = element (waiterTag S) t (I .waiting s p) h in
-        ap (λ (q : ℕ). waiting s q) (sym (z .1 .1 .0 .1) ∙ ap (λ (u : ℕ). place S u s) (z .2)) ∙ sym (where-waiting s t) ∙ ap (λ (c : ℕ). whereOf c t) (sym (z .1 .0) ∙ ap places (z .2))
+        ap (λ (q : ℕ). waiting s q) (sym (z .1 .1 .0 .1) ∙ ap (λ (u : ℕ). place S u s) (z .2))
+        ∙ sym (where-waiting s t) ∙ by-number t (sym (z .1 .0) ∙ ap places (z .2))
     stands t (replying s p) h =
         let z = element (replyTag S) t (I .replying s p) h in
-        ap (λ (q : ℕ). replying s q) (sym (z .1 .1 .0) ∙ ap (λ (u : ℕ). place S u s) (z .2)) ∙ sym (where-replying s t) ∙ ap (λ (c : ℕ). whereOf c t) (sym (z .1 .0) ∙ ap places (z .2))
-    stands t answered h = let z = answer-of (st .answers t) h in sym (where-answered t) ∙ ap (λ (c : ℕ). whereOf c t) (sym (I .collected t (z .0) (z .1) .0))
+        ap (λ (q : ℕ). replying s q) (sym (z .1 .1 .0) ∙ ap (λ (u : ℕ). place S u s) (z .2))
+        ∙ sym (where-replying s t) ∙ by-number t (sym (z .1 .0) ∙ ap places (z .2))
+    stands t answered h = let z = answer-of (st .answers t) h in sym (where-answered t) ∙ by-number t (sym (I .collected t (z .0) (z .1) .0))
 
     inside : (t : ℕ) (w : Where) → 1 ≤ times S st t w → t < R
     inside t (requested s p) h = let z = element (messageTag S) t (I .requested s p) h in H .known t (omega (arith, z .1 .0, ap places (z .2)))
     inside t (waiting s p) h = let z = element (waiterTag S) t (I .waiting s p) h in H .known t (omega (arith, z .1 .0, ap places (z .2)))
     inside t (replying s p) h = let z = element (replyTag S) t (I .replying s p) h in H .known t (omega (arith, z .1 .0, ap places (z .2)))
-    inside t answered h = let z = answer-of (st .answers t) h in order-inside S words places st I t (member-count (collected-member S words places st I t (z .0) (z .1)))
+    inside t answered h =
+        let z = answer-of (st .answers t) h in
+        order-inside S words places st I t (member-count (collected-member S words places st I t (z .0) (z .1)))
 
     -- ---- and every request does
     There : ℕ → Where → Type 0
@@ -83,7 +91,8 @@ module _ (S : Setup) where
     unfolding There
     there t l (atEnd h) = rw (h, where-answered t) (rw (H .inAnswers t h l), tt)
     there t l (atRequest s i h) = rw (h, where-requested s t) (omega (arith, H .inRequests t s h, I .requestedOnce s (place S t s) t), (i, refl))
-    there t l (atWait s i h) = rw (h, where-waiting (suc s) t) (omega (arith, H .inWaits t (suc s) h, I .waitingOnce (suc s) (place S t (suc s)) t), (omega arith, i, refl))
+    there t l (atWait s i h) =
+        rw (h, where-waiting (suc s) t) (omega (arith, H .inWaits t (suc s) h, I .waitingOnce (suc s) (place S t (suc s)) t), (omega arith, i, refl))
     there t l (atReply s i h) = rw (h, where-replying s t) (omega (arith, H .inReplies t s h, I .replyingOnce s (place S t s) t), (i, refl))
 
     one-place : OnePlace S st

@@ -1,7 +1,7 @@
 -- What demand 3 asks of one moment follows from the invariant.
 use Prim.Native.Nat.{ℕ, _+_, _≤_, _<_}
 use mathlib.Core.Path.{_≡_, refl, sym, _∙_, ap}
-use mathlib.Core.Bool.{true}
+use mathlib.Core.Bool.{Bool, true}
 use mathlib.Core.List.{List, [], _∷_, List·Memᴰ}
 use mathlib.Core.Option.{Option, none, some}
 use native.Mathlib.Omega.{arith}
@@ -33,13 +33,19 @@ use Rattle.machine.proofs.Drain.{below-answered}
 module _ (S : Setup) where
   open Setup S using (Word, k, R, engineOf, addressOf)
 
+  -- t stands before ts in a list, and is kept where a test comes to b: u is counted as it stands there
+  abbrev Listed : ℕ → ℕ → List ℕ → Bool → Type 0
+  Listed u t ts b =
+      let others = kept S (engineOf u) (addressOf u) ts in
+      count itself u (choose b (t ∷ others) others) ≡ same t u + count itself u ts
+
   -- a request is kept where its own engine and address are
   kept-count : (u : ℕ) (xs : List ℕ) → count itself u (kept S (engineOf u) (addressOf u) xs) ≡ count itself u xs
   unfolding kept only
   kept-count u [] = refl
   kept-count u (t ∷ ts) =
-      eqb-cases (λ b. count itself u (choose (both b (eqb (addressOf t) (addressOf u))) (t ∷ kept S (engineOf u) (addressOf u) ts) (kept S (engineOf u) (addressOf u) ts)) ≡ same t u + count itself u ts) (engineOf t) (engineOf u)
-      (λ _. eqb-cases (λ b. count itself u (choose b (t ∷ kept S (engineOf u) (addressOf u) ts) (kept S (engineOf u) (addressOf u) ts)) ≡ same t u + count itself u ts) (addressOf t) (addressOf u)
+      eqb-cases (λ b. Listed u t ts (both b (eqb (addressOf t) (addressOf u)))) (engineOf t) (engineOf u)
+      (λ _. eqb-cases (Listed u t ts) (addressOf t) (addressOf u)
       (λ _. omega (arith, kept-count u ts)) (λ n. omega (arith, kept-count u ts, same-no (λ (e : t ≡ u). n (ap addressOf e)))))
       (λ n. omega (arith, kept-count u ts, same-no (λ (e : t ≡ u). n (ap engineOf e))))
 
@@ -50,7 +56,9 @@ module _ (S : Setup) where
   module _ (words : ℕ → Word) (places : ℕ → ℕ) (st : State S) (I : Invariant S words places st) where
     -- every request of the trace stands in the order list, or in the line to it
     line-count : (u : ℕ) → count itself u (st .order) + count itself u (stack (segment S st (engineOf u) (addressOf u)) k) ≡ count itself u (tagsBelow R)
-    line-count u = let z = ap (count itself u) (I .line (engineOf u) (addressOf u)) in omega (arith, kept-count u (st .order), kept-count u (tagsBelow R), rw count-append at z)
+    line-count u =
+        let z = ap (count itself u) (I .line (engineOf u) (addressOf u)) in
+        omega (arith, kept-count u (st .order), kept-count u (tagsBelow R), rw count-append at z)
 
     pub order-inside : (u : ℕ) → 1 ≤ count itself u (st .order) → u < R
     order-inside u h = tags-inside R u (omega (arith, line-count u))
@@ -80,7 +88,8 @@ module _ (S : Setup) where
     module _ (law : Lawful S) where
       segment-unissued : (u : ℕ) → count itself u (segment S st (engineOf u) (addressOf u) 0) ≡ count (messageTag S) u (st .requests 0 (engineOf u))
       unfolding treeOf
-      segment-unissued u = kept-count u _ ∙ tags-count u (st .requests 0 (place S u 0)) ∙ ap (λ (e : ℕ). count (messageTag S) u (st .requests 0 e)) (law .place-engine u)
+      segment-unissued u =
+          kept-count u _ ∙ tags-count u (st .requests 0 (place S u 0)) ∙ ap (λ (e : ℕ). count (messageTag S) u (st .requests 0 e)) (law .place-engine u)
 
       -- what is unissued is not in the list
       pub unissued-absent : (u : ℕ) → Unissued S st u → count itself u (st .order) ≡ 0

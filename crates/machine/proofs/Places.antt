@@ -116,7 +116,8 @@ module _ (S : Setup) where
   pub goes-held : (places : ℕ → ℕ) (st st′ : State S) (t v : ℕ) → Held places st → Goes places st st′ t v → Held (update places t v) st′
   goes-held places st st′ t v H G = record {
     spot = λ u. by-cases (ℕ-discrete u t) (λ (e : u ≡ t). rw (e, update-same) (G .to)) (λ (n : u ≢ t). rw (update-other places t v n) (H .spot u));
-    known = λ u. by-cases (ℕ-discrete u t) (λ (e : u ≡ t) h. rw e (H .known t (G .uncollected))) (λ (n : u ≢ t) h. H .known u (rw (update-other places t v n) at h));
+    known = λ u. by-cases (ℕ-discrete u t) (λ (e : u ≡ t) h. rw e (H .known t (G .uncollected)))
+        (λ (n : u ≢ t) h. H .known u (rw (update-other places t v n) at h));
     inRequests = λ u s. by-cases (ℕ-discrete u t) (λ (e : u ≡ t). rw (e, update-same) (G .toRequests s))
         (λ (n : u ≢ t). rw (update-other places t v n) (λ h. omega (arith, H .inRequests u s h, G .requests u n s (place S u s))));
     inWaits = λ u s. by-cases (ℕ-discrete u t) (λ (e : u ≡ t). rw (e, update-same) (G .toWaits s))

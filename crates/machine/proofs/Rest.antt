@@ -46,8 +46,11 @@ module _ (S : Setup) where
     places = L .places;
     invariant = L .invariant;
     held = L .held;
-    bound = omega (arith, none-left-below (L .places) R (λ t l. let z = value-of (st .answers t) (below-answered S st R h t l) in L .invariant .collected t (z .0) (z .1) .0));
+    bound = omega (arith, none-left-below (L .places) R at-end);
   }
+    where
+      at-end : (t : ℕ) → t < R → L .places t ≡ 3
+      at-end t l = let z = value-of (st .answers t) (below-answered S st R h t l) in L .invariant .collected t (z .0) (z .1) .0
 
 module _ (S : Setup) (law : Lawful S) (words : ℕ → S .Word) where
   open Setup S using (k, R)
@@ -80,11 +83,13 @@ module _ (S : Setup) (law : Lawful S) (words : ℕ → S .Word) where
   all-rest (a ∷ acts) (cons f fs) r h = ap (runActs S acts) (act-rests a f r h) ∙ all-rest acts fs r h
 
   -- ---- from where events reach, or acts
-  pub reached-rests : {es : List Event} → All (Fits S) es → allAnswered S (runEvents S es (start S words)) ≡ true → (acts : List Act) → All (Named k) acts → (c : ℕ)
+  pub reached-rests : {es : List Event} → All (Fits S) es → allAnswered S (runEvents S es (start S words)) ≡ true
+      → (acts : List Act) → All (Named k) acts → (c : ℕ)
       → let r : Ran S = record { state = runEvents S es (start S words); rounds = c } in runActs S acts r ≡ r
   reached-rests {es} fs h acts named c =
-      all-rest acts named (record { state = runEvents S es (start S words); rounds = c })
-      (answered-done (runEvents S es (start S words)) (R * (2 * k + 2)) (events-live S law words fs (start S words) (R * (2 * k + 2)) (start-live S law words)) h)
+      let bound = R * (2 * k + 2) in
+      let live = events-live S law words fs (start S words) bound (start-live S law words) in
+      all-rest acts named (record { state = runEvents S es (start S words); rounds = c }) (answered-done (runEvents S es (start S words)) bound live h)
 
   module _ (acts : List Act) (named : All (Named k) acts) where
     abbrev ran : Ran S
@@ -101,7 +106,9 @@ module _ (S : Setup) (law : Lawful S) (words : ℕ → S .Word) where
     drain-answers-all n enough = drain-answers S law words n (moves-left .0) ran (moves-left .2) (omega (arith, moves-left .1))
 
     drain-done : (n : ℕ) → R * (2 * k + 2) ≤ n → Done (drainRun S n ran .state)
-    drain-done n enough = let z = drain-live S law words n (moves-left .0) ran (moves-left .2) in answered-done (drainRun S n ran .state) (z .0) (z .2) (drain-answers-all n enough)
+    drain-done n enough =
+        let z = drain-live S law words n (moves-left .0) ran (moves-left .2) in
+        answered-done (drainRun S n ran .state) (z .0) (z .2) (drain-answers-all n enough)
 
   module _ (acts : List Act) (named : All (Named k) acts) (n : ℕ) (enough : R * (2 * k + 2) ≤ n) where
     module _ (before after : List Act) (is : acts ≡ before ++ (drain n ∷ after)) where

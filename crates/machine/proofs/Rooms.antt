@@ -17,7 +17,8 @@ use Rattle.event.specs.Event.{Event}
 use Rattle.machine.specs.Setup.{Setup, Message, WaitRecord, Reply, place}
 use Rattle.machine.specs.Arrival.{Node, Arrival, merged, appended, refused, append, replaced, recorded, combine, meet, youngest, arrive, oldestOf}
 use Rattle.machine.specs.State.{State, unissued, start}
-use Rattle.machine.specs.Steps.{nodeAt, sent, landed, forwardOldest, forwardStep, serveOldest, moduleStep, answered, returnOldest, returnStep, collectOldest, collectStep, step}
+use Rattle.machine.specs.Steps.{nodeAt, sent, landed, forwardOldest, serveOldest, answered, returnOldest, collectOldest}
+use Rattle.machine.specs.Steps.{forwardStep, moduleStep, returnStep, collectStep, step}
 use Rattle.machine.specs.Run.{runEvents}
 use Rattle.machine.specs.Rooms.{WithinRooms}
 use Rattle.machine.proofs.Arrivals.{Oldest, oldest-is}
@@ -58,10 +59,14 @@ module _ (S : Setup) where
       append-short : Leaves (append S n m)
       append-short = ltb-either Leaves (length (n .queue)) Q (λ h. (omega (arith, length-append (n .queue) (m ∷ [])), w)) (λ _. tt)
 
-      combine-short : (older : List (Message S)) (f : Message S) (younger : List (Message S)) → n .queue ≡ older ++ (f ∷ younger) → (o : Option Operation) → Leaves (combine S n m older f younger o)
+      combine-short : (older : List (Message S)) (f : Message S) (younger : List (Message S)) → n .queue ≡ older ++ (f ∷ younger)
+          → (o : Option Operation) → Leaves (combine S n m older f younger o)
       combine-short older f younger is none = append-short
       combine-short older f younger is (some o) = ltb-either Leaves (length (n .waiting)) W
-          (λ h. (omega (arith, ap length is, length-append older (f ∷ younger), length-append older (replaced S f o ∷ younger)), omega (arith, length-append (n .waiting) (recorded S f m ∷ []))))
+          (λ h.
+          let before = length-append older (f ∷ younger) in
+          let after = length-append older (replaced S f o ∷ younger) in
+          (omega (arith, ap length is, before, after), omega (arith, length-append (n .waiting) (recorded S f m ∷ []))))
           (λ _. append-short)
 
       found-short : (f : Found (Message S)) → Last (λ (m′ : Message S). eqb (m′ .address) (m .address)) (n .queue) f → Leaves (meet S n m f)
@@ -78,11 +83,13 @@ module _ (S : Setup) where
     unfolding forwardStep forwardOldest landed
     forward-within s p = go (st .requests s p) refl
       where
-        sent-within : {m : Message S} (rest : List (Message S)) → st .requests s p ≡ m ∷ rest → (p′ : ℕ) (n : Node S) (merges : ℕ) → NodeShort n → Within (sent S st s p rest p′ n merges)
+        sent-within : {m : Message S} (rest : List (Message S)) → st .requests s p ≡ m ∷ rest → (p′ : ℕ) (n : Node S) (merges : ℕ) → NodeShort n
+            → Within (sent S st s p rest p′ n merges)
         sent-within rest is p′ n merges (q, w) =
             (short-update (short-rest (fit .0) s p is) (suc s) p′ (n .queue) (λ _. q), fit .1, short-update (fit .2) (suc s) p′ (n .waiting) (λ _. w))
 
-        landed-within : {m : Message S} (rest : List (Message S)) → st .requests s p ≡ m ∷ rest → (p′ : ℕ) (a : Arrival S) → Leaves a → Within (landed S st s p rest p′ a)
+        landed-within : {m : Message S} (rest : List (Message S)) → st .requests s p ≡ m ∷ rest → (p′ : ℕ) (a : Arrival S) → Leaves a
+            → Within (landed S st s p rest p′ a)
         landed-within rest is p′ (merged n) h = sent-within rest is p′ n (suc (st .merges)) h
         landed-within rest is p′ (appended n) h = sent-within rest is p′ n (st .merges) h
         landed-within rest is p′ refused h = fit
@@ -100,17 +107,20 @@ module _ (S : Setup) where
       where
         go : (l : List (Message S)) → st .requests k p ≡ l → Within (serveOldest S st p l)
         go [] is = fit
-        go (m ∷ rest) is = ltb-either Within (length (st .replies k p)) Q (λ h. (short-rest (fit .0) k p is, short-put (fit .1) k p (st .replies k p) _ h, fit .2)) (λ _. fit)
+        go (m ∷ rest) is =
+            ltb-either Within (length (st .replies k p)) Q
+            (λ h. (short-rest (fit .0) k p is, short-put (fit .1) k p (st .replies k p) _ h, fit .2)) (λ _. fit)
 
     return-within : (s p : ℕ) → Within (returnStep S s p st)
     unfolding returnStep returnOldest answered
     return-within s p = go (st .replies (suc s) p) refl
       where
-        found-within : (t : Reply S) (rest : List (Reply S)) → st .replies (suc s) p ≡ t ∷ rest → (f : Found (WaitRecord S)) → Oldest S (t .tag) (st .waits (suc s) p) f
-            → Within (answered S st s p t rest f)
+        found-within : (t : Reply S) (rest : List (Reply S)) → st .replies (suc s) p ≡ t ∷ rest → (f : Found (WaitRecord S))
+            → Oldest S (t .tag) (st .waits (suc s) p) f → Within (answered S st s p t rest f)
         found-within t rest is absent h =
             let to = place S (t .tag) s in
-            ltb-either Within (length (st .replies s to)) Q (λ l. (fit .0, short-put (short-rest (fit .1) (suc s) p is) s to (st .replies s to) t l, fit .2)) (λ _. fit)
+            ltb-either Within (length (st .replies s to)) Q
+            (λ l. (fit .0, short-put (short-rest (fit .1) (suc s) p is) s to (st .replies s to) t l, fit .2)) (λ _. fit)
         found-within t rest is (found older r younger) h =
             let to = place S (r .second) s in
             let fewer = short-update (fit .2) (suc s) p (older ++ younger)

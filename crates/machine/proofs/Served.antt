@@ -69,20 +69,32 @@ module _ (S : Setup) where
   -- a record that goes: its second is served, and its first still is
   module _ (waits : Waits S) (s p : ℕ) (xs : List (WaitRecord S)) (z : WaitRecord S) (ys : List (WaitRecord S)) (is : waits (suc s) p ≡ xs ++ (z ∷ ys)) where
     module _ (on : place S (z .first) (suc s) ≡ p) (l : List (Reply S)) (v : Word) (h : Served l (treeOf S waits (suc s) (z .first)) v) where
-      parts : Served l (treeOf S waits s (z .first)) v × All (λ (r : WaitRecord S). Served l (treeOf S waits s (r .second)) (apply (r .operation) v)) (recordsOf S (z .first) xs ++ (z ∷ recordsOf S (z .first) ys))
+      -- the records of the first before z and behind it
+      abbrev before : List (WaitRecord S)
+      before = recordsOf S (z .first) xs
+
+      abbrev after : List (WaitRecord S)
+      after = recordsOf S (z .first) ys
+
+      parts : Served l (treeOf S waits s (z .first)) v
+          × All (λ (r : WaitRecord S). Served l (treeOf S waits s (r .second)) (apply (r .operation) v)) (before ++ (z ∷ after))
       unfolding treeOf
-      parts = rw (records-middle S xs z ys) at (rw is at (rw on at (served-parts l (treeOf S waits s) (treeOf S waits s (z .first)) (recordsOf S (z .first) (waits (suc s) (place S (z .first) (suc s)))) v h)))
+      parts =
+          let here = recordsOf S (z .first) (waits (suc s) (place S (z .first) (suc s))) in
+          rw (records-middle S xs z ys) at (rw is at (rw on at (served-parts l (treeOf S waits s) (treeOf S waits s (z .first)) here v h)))
 
       pub gone-second : Served l (treeOf S waits s (z .second)) (apply (z .operation) v)
-      gone-second = all-head (all-right (recordsOf S (z .first) xs) (parts .1))
+      gone-second = all-head (all-right before (parts .1))
 
       pub gone-first : Served l (treeOf S (update2 waits (suc s) p (xs ++ ys)) (suc s) (z .first)) v
       unfolding treeOf
       gone-first = rw (on, update2-same, records-append S, fun-ext (λ u. gone-below S waits s p (xs ++ ys) s u (omega arith)))
-          (parts-served l (treeOf S waits s) (treeOf S waits s (z .first)) v (parts .0) (all-append (all-left (recordsOf S (z .first) xs) _ (parts .1)) (all-tail (all-right (recordsOf S (z .first) xs) (parts .1)))))
+          (parts-served l (treeOf S waits s) (treeOf S waits s (z .first)) v (parts .0)
+          (all-append (all-left before _ (parts .1)) (all-tail (all-right before (parts .1)))))
 
   -- the value of a served tree is what the request at its root reads
-  pub served-root : (log : List (Reply S)) (waits : Waits S) (s t : ℕ) (v : Word) → Served log (treeOf S waits s t) v → List·Memᴰ (record { tag = t; value = v }) log
+  pub served-root : (log : List (Reply S)) (waits : Waits S) (s t : ℕ) (v : Word) → Served log (treeOf S waits s t) v
+      → List·Memᴰ (record { tag = t; value = v }) log
   unfolding treeOf
   served-root log waits zero t v h = h
   served-root log waits (suc s) t v h =

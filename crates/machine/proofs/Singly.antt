@@ -29,7 +29,8 @@ module _ (S : Setup) where
   reads-member r [] words h = absurd (List·Memᴰ·not-nil h)
   reads-member r (t ∷ xs) words h = go (List·Memᴰ·cases-cons h) (reads-member r xs (runOne S t words))
     where
-      go : (r ≡ record { tag = t; value = words (addressOf t) }) ⊎ List·Memᴰ r (reads S xs (runOne S t words)) → (List·Memᴰ r (reads S xs (runOne S t words)) → List·Memᴰ (r .tag) xs) → List·Memᴰ (r .tag) (t ∷ xs)
+      go : (r ≡ record { tag = t; value = words (addressOf t) }) ⊎ List·Memᴰ r (reads S xs (runOne S t words))
+          → (List·Memᴰ r (reads S xs (runOne S t words)) → List·Memᴰ (r .tag) xs) → List·Memᴰ (r .tag) (t ∷ xs)
       go (inl e) f = List·Memᴰ·head (ap (replyTag S) e)
       go (inr m) f = List·Memᴰ·tail (f m)
 

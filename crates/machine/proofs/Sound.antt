@@ -88,10 +88,12 @@ module _ (S : Setup) (law : Lawful S) (words : ℕ → S .Word) where
   open Setup S using (k, R)
 
   -- a drain from any state that events reach runs few rounds
-  pub drain-from : (es : List Event) → All (Fits S) es → (n c : ℕ) → drainRun S n (record { state = runEvents S es (start S words); rounds = c }) .rounds ≤ c + R * (2 * k + 2)
+  pub drain-from : (es : List Event) → All (Fits S) es → (n c : ℕ)
+      → drainRun S n (record { state = runEvents S es (start S words); rounds = c }) .rounds ≤ c + R * (2 * k + 2)
   drain-from es fit n c =
-      let z = drain-live S law words n (R * (2 * k + 2)) (record { state = runEvents S es (start S words); rounds = c }) (events-live S law words fit (start S words) (R * (2 * k + 2)) (start-live S law words)) in
-      omega (arith, z .1)
+      let bound = R * (2 * k + 2) in
+      let live = events-live S law words fit (start S words) bound (start-live S law words) in
+      omega (arith, drain-live S law words n bound (record { state = runEvents S es (start S words); rounds = c }) live .1)
 
 pub sound : (S : Setup) → Lawful S → (words : ℕ → S .Word) (es : List Event) → All (Fits S) es → Sound S (runEvents S es (start S words))
 sound S law words es fit =

@@ -55,30 +55,44 @@ module _ (S : Setup) where
   asked-count : (e u : ℕ) (ts : List ℕ) → count (messageTag S) u (askedBy S e ts) ≤ count itself u ts
   unfolding askedBy
   asked-count e u [] = omega arith
-  asked-count e u (t ∷ ts) = eqb-cases (λ b. count (messageTag S) u (choose b (asked S t ∷ askedBy S e ts) (askedBy S e ts)) ≤ same t u + count itself u ts) (engineOf t) e
+  asked-count e u (t ∷ ts) =
+      let others = askedBy S e ts in
+      eqb-cases (λ b. count (messageTag S) u (choose b (asked S t ∷ others) others) ≤ same t u + count itself u ts) (engineOf t) e
       (λ _. omega (arith, asked-count e u ts)) (λ _. omega (arith, asked-count e u ts))
 
   -- every request stands with its engine
   asked-own : (u : ℕ) (ts : List ℕ) → count (messageTag S) u (askedBy S (engineOf u) ts) ≡ count itself u ts
   unfolding askedBy
   asked-own u [] = refl
-  asked-own u (t ∷ ts) = eqb-cases (λ b. count (messageTag S) u (choose b (asked S t ∷ askedBy S (engineOf u) ts) (askedBy S (engineOf u) ts)) ≡ same t u + count itself u ts) (engineOf t) (engineOf u)
+  asked-own u (t ∷ ts) =
+      let others = askedBy S (engineOf u) ts in
+      eqb-cases (λ b. count (messageTag S) u (choose b (asked S t ∷ others) others) ≡ same t u + count itself u ts) (engineOf t) (engineOf u)
       (λ _. omega (arith, asked-own u ts)) (λ n. omega (arith, asked-own u ts, same-no (λ (e : t ≡ u). n (ap engineOf e))))
 
-  asked-all : {P : ℕ → Type 0} (e : ℕ) {ts : List ℕ} → All P ts → All (λ (m : Message S). P (m .tag) × (engineOf (m .tag) ≡ e) × (m ≡ asked S (m .tag))) (askedBy S e ts)
+  -- a message of engine e as it is asked, with what holds of its tag
+  abbrev Asked : (ℕ → Type 0) → ℕ → Message S → Type 0
+  Asked P e m = P (m .tag) × (engineOf (m .tag) ≡ e) × (m ≡ asked S (m .tag))
+
+  asked-all : {P : ℕ → Type 0} (e : ℕ) {ts : List ℕ} → All P ts → All (Asked P e) (askedBy S e ts)
   unfolding askedBy
   asked-all e nil = nil
   asked-all {P} e (cons {x = t} {xs = ts} h hs) =
-      eqb-cases (λ b. All (λ (m : Message S). P (m .tag) × (engineOf (m .tag) ≡ e) × (m ≡ asked S (m .tag))) (choose b (asked S t ∷ askedBy S e ts) (askedBy S e ts))) (engineOf t) e
+      eqb-cases (λ b. All (Asked P e) (choose b (asked S t ∷ askedBy S e ts) (askedBy S e ts))) (engineOf t) e
       (λ z. cons (h, z, refl) (asked-all e hs)) (λ _. asked-all e hs)
 
+  abbrev tags : List (Message S) → List ℕ
+  tags = concat (λ (m : Message S). m .tag ∷ [])
+
   -- at the start everything is in line
-  asked-kept : Lawful S → (e a : ℕ) (ts : List ℕ) → kept S e a (concat (λ (m : Message S). m .tag ∷ []) (askedBy S (position e a 0) ts)) ≡ kept S e a ts
+  asked-kept : Lawful S → (e a : ℕ) (ts : List ℕ) → kept S e a (tags (askedBy S (position e a 0) ts)) ≡ kept S e a ts
   unfolding askedBy
   asked-kept law e a [] = refl
-  asked-kept law e a (t ∷ ts) = eqb-cases (λ b. kept S e a (concat (λ (m : Message S). m .tag ∷ []) (choose b (asked S t ∷ askedBy S (position e a 0) ts) (askedBy S (position e a 0) ts))) ≡ kept S e a (t ∷ ts)) (engineOf t) (position e a 0)
-      (λ _. kept-append S e a (t ∷ []) _ ∙ ap (λ (l : List ℕ). kept S e a (t ∷ []) ++ l) (asked-kept law e a ts) ∙ sym (kept-append S e a (t ∷ []) ts))
-      (λ n. asked-kept law e a ts ∙ ap (λ (l : List ℕ). l ++ kept S e a ts) (sym (kept-none S e a {xs = t ∷ []} (cons (off n) nil))) ∙ sym (kept-append S e a (t ∷ []) ts))
+  asked-kept law e a (t ∷ ts) =
+      let others = askedBy S (position e a 0) ts in
+      let first = kept-append S e a (t ∷ []) ts in
+      eqb-cases (λ b. kept S e a (tags (choose b (asked S t ∷ others) others)) ≡ kept S e a (t ∷ ts)) (engineOf t) (position e a 0)
+      (λ _. kept-append S e a (t ∷ []) _ ∙ ap (λ (l : List ℕ). kept S e a (t ∷ []) ++ l) (asked-kept law e a ts) ∙ sym first)
+      (λ n. asked-kept law e a ts ∙ ap (λ (l : List ℕ). l ++ kept S e a ts) (sym (kept-none S e a {xs = t ∷ []} (cons (off n) nil))) ∙ sym first)
     where
       off : engineOf t ≢ position e a 0 → ¬ ((engineOf t ≡ e) × (addressOf t ≡ a))
       off n h = n (sym (law .place-engine t) ∙ ap₂ (λ x y. position x y 0) (h .0) (h .1))
@@ -108,7 +122,8 @@ module _ (S : Setup) where
     unfolding start unissued treeOf runSingly
     start-invariant = record {
       requested = elim [
-        | zero ↦ λ p. all-map (λ m h. (h .0, (law .place-engine (m .tag) ∙ h .1, tt, (λ x. rw (h .2)), ap (λ (z : Message S). z .address) (h .2)))) (asked-all p (tags-placed R (omega arith)))
+        | zero ↦ λ p. all-map (λ m h. (h .0, (law .place-engine (m .tag) ∙ h .1, tt, (λ x. rw (h .2)), ap (λ (z : Message S). z .address) (h .2))))
+            (asked-all p (tags-placed R (omega arith)))
         | suc s ↦ λ p. nil
       ];
       requestedOnce = elim [ zero ↦ λ p u. omega (arith, asked-count p u (tagsBelow R), tags-once R u) | suc s ↦ λ p u. omega arith ];
@@ -118,7 +133,9 @@ module _ (S : Setup) where
       replyingOnce = λ s p u. omega arith;
       collected = λ t v e. (let z : _≡_ {A = ℕ} 0 1 = cc in absurd (omega arith));
       memory = λ a. refl;
-      line = λ e a. rw (kept-none S e a {xs = []} nil) (stack-lowest (segment S (start S words) e a) (λ j. kept-none S e a nil) k ∙ asked-kept law e a (tagsBelow R));
+      line = λ e a.
+          let only-unissued = stack-lowest (segment S (start S words) e a) (λ j. kept-none S e a nil) k in
+          rw (kept-none S e a {xs = []} nil) (only-unissued ∙ asked-kept law e a (tagsBelow R));
     }
 
     start-held : Held S startPlaces (start S words)
@@ -126,7 +143,9 @@ module _ (S : Setup) where
     start-held = record {
       spot = λ u. place-cases u (λ _ e. atRequest 0 (omega arith) e) (λ _ e. atEnd e);
       known = λ u n. place-cases u (λ l _. l) (λ _ e. absurd (n e));
-      inRequests = λ u s h. place-cases u (λ l e. let z : s ≡ 0 = omega arith in rw (z, law .place-engine u, asked-own u (tagsBelow R)) (omega (arith, tags-below R u l))) (λ _ e. absurd (omega arith));
+      inRequests = λ u s h. place-cases u
+          (λ l e. let z : s ≡ 0 = omega arith in rw (z, law .place-engine u, asked-own u (tagsBelow R)) (omega (arith, tags-below R u l)))
+          (λ _ e. absurd (omega arith));
       inWaits = λ u s h. place-cases u (λ _ e. absurd (omega arith)) (λ _ e. absurd (omega arith));
       inReplies = λ u s h. place-cases u (λ _ e. absurd (omega arith)) (λ _ e. absurd (omega arith));
       inAnswers = λ u h l. place-cases u (λ _ e. absurd (omega arith)) (λ m _. absurd (omega arith));
@@ -136,7 +155,8 @@ module _ (S : Setup) where
     unfolding left
     start-left zero = omega arith
     start-left (suc n) =
-        let z : remaining S (startPlaces n) ≤ 2 * k + 2 = place-cases n (λ _ e. rw e (omega (arith, remaining-request S 0))) (λ _ e. rw e (omega (arith, remaining-end S))) in
+        let z : remaining S (startPlaces n) ≤ 2 * k + 2 =
+        place-cases n (λ _ e. rw e (omega (arith, remaining-request S 0))) (λ _ e. rw e (omega (arith, remaining-end S))) in
         omega (arith, z, start-left n)
 
     pub start-live : Live S words (start S words) (R * (2 * k + 2))

@@ -1,5 +1,5 @@
 -- The counts: each module step that takes a message adds one access, each arrival that merges one merge, and nothing else any.
-use Prim.Native.Nat.{ℕ, zero, suc, _+_, _-_, _≤_}
+use Prim.Native.Nat.{ℕ, zero, suc, _+_, _-_, _≤_, _<_}
 use mathlib.Core.Path.{_≡_, refl}
 use mathlib.Core.Bool.{Bool, false}
 use mathlib.Core.List.{List, [], _∷_, _++_}
@@ -14,7 +14,8 @@ use Rattle.event.specs.Event.{Event}
 use Rattle.machine.specs.Setup.{Setup, Message, WaitRecord, Reply, place}
 use Rattle.machine.specs.Arrival.{Arrival, merged, appended, refused, arrive, oldestOf}
 use Rattle.machine.specs.State.{State, start, standsFor}
-use Rattle.machine.specs.Steps.{nodeAt, landed, forwardOldest, forwardStep, serveOldest, moduleStep, answered, returnOldest, returnStep, collectOldest, collectStep, step}
+use Rattle.machine.specs.Steps.{nodeAt, landed, forwardOldest, serveOldest, answered, returnOldest, collectOldest}
+use Rattle.machine.specs.Steps.{forwardStep, moduleStep, returnStep, collectStep, step}
 use Rattle.machine.specs.Run.{runEvents}
 use Rattle.machine.specs.Order.{takes, isMerged, oldestMerges, merges, stepsThat}
 
@@ -80,42 +81,59 @@ module _ (S : Setup) where
         none : Served st
         none = (rw (le-ltb (length (st .order)) (length (st .order)) (omega arith)) (omega arith), refl)
 
+        longer : (t : ℕ) → length (st .order) < length (st .order ++ standsFor S (st .waits) k t)
+        longer t = omega (arith, length-append (st .order) (standsFor S (st .waits) k t), stands-some (st .waits) k t)
+
         go : (l : List (Message S)) → Served (serveOldest S st p l)
         go [] = none
         go (m ∷ rest) = ltb-either Served (length (st .replies k p)) Q
-            (λ _. (rw (lt-ltb (length (st .order)) (length (st .order ++ standsFor S (st .waits) k (m .tag))) (omega (arith, length-append (st .order) (standsFor S (st .waits) k (m .tag)), stands-some (st .waits) k (m .tag)))) (omega arith), refl))
+            (λ _. (rw (lt-ltb (length (st .order)) (length (st .order ++ standsFor S (st .waits) k (m .tag))) (longer (m .tag))) (omega arith), refl))
             (λ _. none)
 
-    -- ---- one event
-    abbrev afterReturns : Event → State S
-    afterReturns e = choose (eqb (e .what) 3) (returnStep S (e .level - 1) (e .position) st) (choose (eqb (e .what) 4) (collectStep S (e .position) st) st)
+    -- ---- one event: the step from each test on
+    module _ (e : Event) where
+      abbrev fromReturn : State S
+      fromReturn = choose (eqb (e .what) 3) (returnStep S (e .level - 1) (e .position) st) (choose (eqb (e .what) 4) (collectStep S (e .position) st) st)
 
-    rest-same : (e : Event) → Same (afterReturns e)
-    rest-same e = either Same (eqb (e .what) 3) (return-same (e .level - 1) (e .position)) (either Same (eqb (e .what) 4) (collect-same (e .position)) (refl, refl))
+      abbrev fromModule : Bool → State S
+      fromModule d = choose d (moduleStep S (e .position) st) fromReturn
 
-    -- the two counts, where the tests for issue, forward and module come to b, c and d
-    abbrev Counted : Event → Bool → Bool → Bool → State S → Type 0
-    Counted e b c d x =
-        (x .accesses ≡ choose (both d (ltb (length (st .order)) (length (x .order)))) 1 0 + st .accesses)
-        × (x .merges ≡ choose (choose b (oldestMerges S st 0 (st .requests 0 (e .position))) (both c (oldestMerges S st (e .level) (st .requests (e .level) (e .position))))) 1 0 + st .merges)
+      abbrev fromForward : Bool → State S
+      fromForward c = choose c (forwardStep S (e .level) (e .position) st) (fromModule (eqb (e .what) 2))
 
-    step-counted : (e : Event) → Counted e (eqb (e .what) 0) (eqb (e .what) 1) (eqb (e .what) 2) (step S e st)
-    unfolding step
-    step-counted e =
-        let issue = forward-counts 0 (e .position) in
-        let forward = forward-counts (e .level) (e .position) in
-        let serve = module-counts (e .position) in
-        let others = rest-same e in
-        eqb-cases (λ b. Counted e b (eqb (e .what) 1) (eqb (e .what) 2) (choose b (forwardStep S 0 (e .position) st) (choose (eqb (e .what) 1) (forwardStep S (e .level) (e .position) st) (choose (eqb (e .what) 2) (moduleStep S (e .position) st) (afterReturns e))))) (e .what) 0
-        (λ z. (rw z (omega (arith, issue .0)), issue .1))
-        (λ _. eqb-cases (λ c. Counted e false c (eqb (e .what) 2) (choose c (forwardStep S (e .level) (e .position) st) (choose (eqb (e .what) 2) (moduleStep S (e .position) st) (afterReturns e)))) (e .what) 1
-        (λ z. (rw z (omega (arith, forward .0)), forward .1))
-        (λ _. eqb-cases (λ d. Counted e false false d (choose d (moduleStep S (e .position) st) (afterReturns e))) (e .what) 2
-        (λ _. (serve .0, omega (arith, serve .1)))
-        (λ _. (omega (arith, others .0), omega (arith, others .1)))))
+      abbrev fromIssue : Bool → State S
+      fromIssue b = choose b (forwardStep S 0 (e .position) st) (fromForward (eqb (e .what) 1))
+
+      rest-same : Same fromReturn
+      rest-same =
+          either Same (eqb (e .what) 3) (return-same (e .level - 1) (e .position))
+          (either Same (eqb (e .what) 4) (collect-same (e .position)) (refl, refl))
+
+      -- the two counts, where the tests for issue, forward and module come to b, c and d
+      abbrev Counted : Bool → Bool → Bool → State S → Type 0
+      Counted b c d x =
+          let issued = oldestMerges S st 0 (st .requests 0 (e .position)) in
+          let forwarded = oldestMerges S st (e .level) (st .requests (e .level) (e .position)) in
+          (x .accesses ≡ choose (both d (ltb (length (st .order)) (length (x .order)))) 1 0 + st .accesses)
+          × (x .merges ≡ choose (choose b issued (both c forwarded)) 1 0 + st .merges)
+
+      step-counted : Counted (eqb (e .what) 0) (eqb (e .what) 1) (eqb (e .what) 2) (step S e st)
+      unfolding step
+      step-counted =
+          let issue = forward-counts 0 (e .position) in
+          let forward = forward-counts (e .level) (e .position) in
+          let serve = module-counts (e .position) in
+          eqb-cases (λ b. Counted b (eqb (e .what) 1) (eqb (e .what) 2) (fromIssue b)) (e .what) 0
+          (λ z. (rw z (omega (arith, issue .0)), issue .1))
+          (λ _. eqb-cases (λ c. Counted false c (eqb (e .what) 2) (fromForward c)) (e .what) 1
+          (λ z. (rw z (omega (arith, forward .0)), forward .1))
+          (λ _. eqb-cases (λ d. Counted false false d (fromModule d)) (e .what) 2
+          (λ _. (serve .0, omega (arith, serve .1)))
+          (λ _. (omega (arith, rest-same .0), omega (arith, rest-same .1)))))
 
   -- ---- a list of events: what each step that meets a test adds one to counts them
-  events-counted : (counted : State S → ℕ) (test : Event → State S → Bool) → ((st : State S) (e : Event) → counted (step S e st) ≡ choose (test e st) 1 0 + counted st)
+  events-counted : (counted : State S → ℕ) (test : Event → State S → Bool)
+      → ((st : State S) (e : Event) → counted (step S e st) ≡ choose (test e st) 1 0 + counted st)
       → (es : List Event) (st : State S) → counted (runEvents S es st) ≡ stepsThat S test es st + counted st
   unfolding runEvents
   events-counted counted test h [] st = omega arith

@@ -6,14 +6,15 @@ use mathlib.Core.List.{List, [], _∷_}
 use lib.ListN.{length}
 use lib.Dec.{eqb, leb, ltb}
 use borrow.Author.Tests.{ltb-true}
-use Rattle.lists.specs.Choice.{choose}
+use Rattle.lists.specs.Choice.{choose, both}
 use Rattle.lists.specs.Search.{Found, absent, found}
 use Rattle.lists.proofs.Tests.{ltb-either, both-true}
 use Rattle.event.specs.Event.{Event, levelFits}
 use Rattle.machine.specs.Setup.{Setup, Message, WaitRecord, Reply, place}
 use Rattle.machine.specs.Arrival.{Node, Arrival, merged, appended, refused, arrive, oldestOf}
 use Rattle.machine.specs.State.{State}
-use Rattle.machine.specs.Steps.{nodeAt, sent, landed, forwardOldest, forwardStep, serveOldest, moduleStep, answered, returnOldest, returnStep, collectOldest, collectStep, step}
+use Rattle.machine.specs.Steps.{nodeAt, sent, landed, forwardOldest, serveOldest, ifRoom, answered, returnOldest, collectOldest}
+use Rattle.machine.specs.Steps.{forwardStep, moduleStep, returnStep, collectStep, step}
 use Rattle.machine.specs.Lawful.{Lawful}
 use Rattle.machine.proofs.Arrivals.{Arrived, arrive-is, Oldest, oldest-is}
 use Rattle.machine.proofs.Moves.{Move, appending, merging, serving, answering, lowering, collecting}
@@ -52,13 +53,23 @@ module _ (S : Setup) where
       abbrev Reason : Type 0
       Reason = Stuck (st .requests s p) (st .requests (suc s))
 
-      landed-does : (m : Message S) (rest : List (Message S)) → st .requests s p ≡ m ∷ rest
-          → (a : Arrival S) → Arrived S (nodeAt S st (suc s) (place S (m .tag) (suc s))) m a → Does Reason st (landed S st s p rest (place S (m .tag) (suc s)) a)
-      unfolding landed
-      landed-does m rest is (merged n) h = subst (λ (x : Node S). Does Reason st (sent S st s p rest (place S (m .tag) (suc s)) x (suc (st .merges)))) (sym (h .node))
-          (moved (merging s p m rest (h .older) (h .into) (h .younger) (h .operation) lt is (h .parts) (h .same) (h .last) (h .applies)))
-      landed-does m rest is (appended n) h = subst (λ (x : Node S). Does Reason st (sent S st s p rest (place S (m .tag) (suc s)) x (st .merges))) (sym h) (moved (appending s p m rest lt is))
-      landed-does m rest is refused h = idle (full (place S (m .tag) (suc s)) h)
+      -- the message m goes to its position one level up
+      module _ (m : Message S) (rest : List (Message S)) (is : st .requests s p ≡ m ∷ rest) where
+        abbrev to : ℕ
+        to = place S (m .tag) (suc s)
+
+        landed-does : (a : Arrival S) → Arrived S (nodeAt S st (suc s) to) m a → Does Reason st (landed S st s p rest to a)
+        unfolding landed
+        landed-does (merged n) h =
+            subst (λ (x : Node S). Does Reason st (sent S st s p rest to x (suc (st .merges)))) (sym (h .node))
+            (moved (merging s p m rest (h .older) (h .into) (h .younger) (h .operation) lt is (h .parts) (h .same) (h .last) (h .applies)))
+        landed-does (appended n) h =
+            subst (λ (x : Node S). Does Reason st (sent S st s p rest to x (st .merges))) (sym h) (moved (appending s p m rest lt is))
+        landed-does refused h = idle (full to h)
+
+        oldest-does : Does Reason st (forwardOldest S st s p (m ∷ rest))
+        unfolding forwardOldest
+        oldest-does = landed-does (arrive S (nodeAt S st (suc s) to) m) (arrive-is S law (nodeAt S st (suc s) to) m)
 
       forward-does : Does Reason st (forwardStep S s p st)
       unfolding forwardStep forwardOldest
@@ -66,27 +77,35 @@ module _ (S : Setup) where
         where
           go : (l : List (Message S)) → st .requests s p ≡ l → Does Reason st (forwardOldest S st s p l)
           go [] is = idle (nothing is)
-          go (m ∷ rest) is = landed-does m rest is (arrive S (nodeAt S st (suc s) (place S (m .tag) (suc s))) m) (arrive-is S law (nodeAt S st (suc s) (place S (m .tag) (suc s))) m)
+          go (m ∷ rest) is = oldest-does m rest is
 
     -- ---- module
-    module-does : (p : ℕ) → Does (Stuck (st .requests k p) (λ _. st .replies k p)) st (moduleStep S p st)
-    unfolding moduleStep serveOldest
-    module-does p = go (st .requests k p) refl
-      where
-        go : (l : List (Message S)) → st .requests k p ≡ l → Does (Stuck (st .requests k p) (λ _. st .replies k p)) st (serveOldest S st p l)
-        go [] is = idle (nothing is)
-        go (m ∷ rest) is = ltb-either (Does (Stuck (st .requests k p) (λ _. st .replies k p)) st) (length (st .replies k p)) Q (λ _. moved (serving p m rest is)) (λ h. idle (full 0 h))
+    module _ (p : ℕ) where
+      abbrev Ground : Type 0
+      Ground = Stuck (st .requests k p) (λ _. st .replies k p)
+
+      module-does : Does Ground st (moduleStep S p st)
+      unfolding moduleStep serveOldest
+      module-does = go (st .requests k p) refl
+        where
+          go : (l : List (Message S)) → st .requests k p ≡ l → Does Ground st (serveOldest S st p l)
+          go [] is = idle (nothing is)
+          go (m ∷ rest) is = ltb-either (Does Ground st) (length (st .replies k p)) Q (λ _. moved (serving p m rest is)) (λ h. idle (full 0 h))
 
     -- ---- return
     module _ (s p : ℕ) where
       abbrev Cause : Type 0
       Cause = Stuck (st .replies (suc s) p) (st .replies s)
 
-      answered-does : (t : Reply S) (rest : List (Reply S)) → st .replies (suc s) p ≡ t ∷ rest → (f : Found (WaitRecord S)) → Oldest S (t .tag) (st .waits (suc s) p) f → Does Cause st (answered S st s p t rest f)
+      -- where the next queue has room, or not
+      if-room : (to : ℕ) {after : State S} → Move S st after → Does Cause st (ifRoom S st s to after)
+      if-room to m = ltb-either (Does Cause st) (length (st .replies s to)) Q (λ _. moved m) (λ l. idle (full to l))
+
+      answered-does : (t : Reply S) (rest : List (Reply S)) → st .replies (suc s) p ≡ t ∷ rest
+          → (f : Found (WaitRecord S)) → Oldest S (t .tag) (st .waits (suc s) p) f → Does Cause st (answered S st s p t rest f)
       unfolding answered
-      answered-does t rest is absent h = ltb-either (Does Cause st) (length (st .replies s (place S (t .tag) s))) Q (λ _. moved (lowering s p t rest is h)) (λ l. idle (full (place S (t .tag) s) l))
-      answered-does t rest is (found older r younger) h =
-          ltb-either (Does Cause st) (length (st .replies s (place S (r .second) s))) Q (λ _. moved (answering s p t rest older r younger is (h .0) (h .1))) (λ l. idle (full (place S (r .second) s) l))
+      answered-does t rest is absent h = if-room (place S (t .tag) s) (lowering s p t rest is h)
+      answered-does t rest is (found older r younger) h = if-room (place S (r .second) s) (answering s p t rest older r younger is (h .0) (h .1))
 
       return-does : Does Cause st (returnStep S s p st)
       unfolding returnStep returnOldest
@@ -106,15 +125,19 @@ module _ (S : Setup) where
         go (t ∷ rest) is = moved (collecting e t rest is)
 
     -- ---- an event
-    choose-does : (b : Bool) {f g : Bool} {P Q : Type 0} {x y : State S} → (f ≡ true → Does P st x) → (g ≡ true → Does Q st y) → choose b f g ≡ true → Does (ifHolds b P Q) st (choose b x y)
+    choose-does : (b : Bool) {f g : Bool} {P Q : Type 0} {x y : State S} → (f ≡ true → Does P st x) → (g ≡ true → Does Q st y)
+        → choose b f g ≡ true → Does (ifHolds b P Q) st (choose b x y)
     choose-does true h k = h
     choose-does false h k = k
+
+    below-k : (s : ℕ) → both (leb 1 s) (ltb s k) ≡ true → s < k
+    below-k s h = ltb-true s k (both-true (leb 1 s) (ltb s k) h .1)
 
     pub step-does : Lawful S → (e : Event) → levelFits k (e .what) (e .level) ≡ true → Does (Why e st) st (step S e st)
     unfolding step levelFits
     step-does law e =
         choose-does (eqb (e .what) 0) (λ _. forward-does law 0 (e .position) (law .levels))
-        (choose-does (eqb (e .what) 1) (λ h. forward-does law (e .level) (e .position) (ltb-true (e .level) k (both-true (leb 1 (e .level)) (ltb (e .level) k) h .1)))
+        (choose-does (eqb (e .what) 1) (λ h. forward-does law (e .level) (e .position) (below-k (e .level) h))
         (choose-does (eqb (e .what) 2) (λ _. module-does (e .position))
         (choose-does (eqb (e .what) 3) (λ _. return-does (e .level - 1) (e .position))
         (choose-does (eqb (e .what) 4) (λ _. collect-does (e .position))

@@ -1,5 +1,5 @@
 -- Between two moments: the order list grows at its end, an answer stays, and what was collected before another was issued stands first.
-use Prim.Native.Nat.{ℕ, _≤_, _<_}
+use Prim.Native.Nat.{ℕ, _≤_}
 use mathlib.Core.Path.{_≡_, refl, sym, _∙_, ap, subst}
 use mathlib.Core.Logic.{_≢_}
 use mathlib.Core.List.{List, [], _∷_, _++_, append-assoc, append-nil, List·Memᴰ}
@@ -17,9 +17,8 @@ use Rattle.machine.specs.Setup.{Setup, Reply}
 use Rattle.machine.specs.State.{State, standsFor}
 use Rattle.machine.specs.Steps.{collectOldest}
 use Rattle.machine.specs.Run.{afterEach}
-use Rattle.machine.specs.Order.{InTime}
+use Rattle.machine.specs.Order.{Unissued, InTime}
 use Rattle.machine.specs.Lawful.{Lawful}
-use Rattle.machine.proofs.Tags.{messageTag}
 use Rattle.machine.proofs.Moves.{Move, appending, merging, serving, answering, lowering, collecting}
 use Rattle.machine.proofs.Progress.{Live}
 use Rattle.machine.proofs.StepsMove.{step-keeps}
@@ -28,7 +27,7 @@ use Rattle.machine.proofs.Drain.{move-keeps-live, step-keeps-live}
 use Rattle.machine.proofs.Ordered.{unissued-absent, collected-member, reply-unanswered}
 
 module _ (S : Setup) where
-  open Setup S using (Word, k, engineOf)
+  open Setup S using (Word, k)
 
   -- ---- what only grows
   record Later (a b : State S) : Type 0 where
@@ -40,17 +39,22 @@ module _ (S : Setup) where
 
   later-onward : {a b c : State S} → Later a b → Later b c → Later a c
   later-onward {a} f g = record {
-    grows = (f .grows .0 ++ g .grows .0, sym (append-assoc (a .order) (f .grows .0) (g .grows .0)) ∙ ap (λ (l : List ℕ). l ++ g .grows .0) (f .grows .1) ∙ g .grows .1);
+    grows = (f .grows .0 ++ g .grows .0, sym (append-assoc (a .order) (f .grows .0) (g .grows .0)) ∙ rw (f .grows .1) (g .grows .1));
     stays = λ t v h. g .stays t v (f .stays t v h);
   }
 
   module _ (words : ℕ → Word) where
-    collect-later : (a : State S) (n : ℕ) → Live S words a n → (e : ℕ) (t : Reply S) (rest : List (Reply S)) → a .replies 0 e ≡ t ∷ rest → Later a (collectOldest S a e (t ∷ rest))
+    collect-later : (a : State S) (n : ℕ) → Live S words a n → (e : ℕ) (t : Reply S) (rest : List (Reply S)) → a .replies 0 e ≡ t ∷ rest
+        → Later a (collectOldest S a e (t ∷ rest))
     unfolding collectOldest
     collect-later a n L e t rest is = record {
       grows = ([], append-nil (a .order));
       stays = λ u v h. by-cases (ℕ-discrete u (t .tag))
-          (λ (z : u ≡ t .tag). let y = reply-unanswered S words (L .places) a (L .invariant) e t rest is in let x : none ≡ some v = sym y ∙ ap (a .answers) (sym z) ∙ h in let w : _≡_ {A = ℕ} 0 1 = cc in absurd (omega arith))
+          (λ (z : u ≡ t .tag).
+          let y = reply-unanswered S words (L .places) a (L .invariant) e t rest is in
+          let x : none ≡ some v = sym y ∙ ap (a .answers) (sym z) ∙ h in
+          let w : _≡_ {A = ℕ} 0 1 = cc in
+          absurd (omega arith))
           (λ (z : u ≢ t .tag). update-other (a .answers) (t .tag) (some (t .value)) z ∙ h);
     }
 
@@ -66,12 +70,14 @@ module _ (S : Setup) where
     later-in-time : Lawful S → (a b : State S) (n : ℕ) → Live S words a n → Later a b → InTime S a b
     later-in-time law a b n L f = record { grows = f .grows; stays = f .stays; realTime = real }
       where
-        real : (t u : ℕ) (v : Word) → a .answers t ≡ some v → 0 < count (messageTag S) u (a .requests 0 (engineOf u)) → List·Memᴰ u (b .order) → Before t u (b .order)
+        real : (t u : ℕ) (v : Word) → a .answers t ≡ some v → Unissued S a u → List·Memᴰ u (b .order) → Before t u (b .order)
         real t u v h un mem =
             let grown = f .grows .0 in
             let w : 1 ≤ count itself u (b .order) = member-count mem in
-            let in-new : 1 ≤ count itself u grown = omega (arith, w, unissued-absent S words (L .places) a (L .invariant) law u un, ap (count itself u) (f .grows .1), count-append itself u (a .order) grown) in
-            subst (Before t u) (f .grows .1) (before-append t u (a .order) grown (member-count (collected-member S words (L .places) a (L .invariant) t v h)) in-new)
+            let unlisted = unissued-absent S words (L .places) a (L .invariant) law u un in
+            let in-new : 1 ≤ count itself u grown = omega (arith, w, unlisted, ap (count itself u) (f .grows .1), count-append itself u (a .order) grown) in
+            let in-old = member-count (collected-member S words (L .places) a (L .invariant) t v h) in
+            subst (Before t u) (f .grows .1) (before-append t u (a .order) grown in-old in-new)
 
     -- ---- from a moment to each later one
     module _ (law : Lawful S) (n : ℕ) where

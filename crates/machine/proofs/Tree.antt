@@ -60,7 +60,8 @@ module _ (S : Setup) where
   unfolding treeOf
   agree x waits waits′ same free zero u n = refl
   agree x waits waits′ same free (suc s) u n = rw (same (suc s) (place S u (suc s)) u n, agree x waits waits′ same free s u n)
-      (grown-eq (treeOf waits′ s) (treeOf waits s) (treeOf waits s u) (all-map (λ r h. agree x waits waits′ same free s (r .second) (h .0)) (records-all S u (free (suc s) (place S u (suc s))))))
+      (grown-eq (treeOf waits′ s) (treeOf waits s) (treeOf waits s u)
+      (all-map (λ r h. agree x waits waits′ same free s (r .second) (h .0)) (records-all S u (free (suc s) (place S u (suc s))))))
 
   -- a tree up to level s looks at the buffers up to level s only
   below : (waits waits′ : Waits) (j : ℕ) → ((s p : ℕ) → s ≤ j → waits′ s p ≡ waits s p) → (s u : ℕ) → s ≤ j → treeOf waits′ s u ≡ treeOf waits s u
@@ -73,28 +74,38 @@ module _ (S : Setup) where
   unfolding treeOf
   tree-onward waits s t e = rw e
 
+  -- whatever comes to stand at a level, a tree below it does not change
+  pub gone-below : (waits : Waits) (s p : ℕ) (l : List (WaitRecord S)) (j u : ℕ) → j ≤ s → treeOf (update2 waits (suc s) p l) j u ≡ treeOf waits j u
+  gone-below waits s p l j u h = below waits (update2 waits (suc s) p l) s (λ i q k. update2-level waits (suc s) p _ i q (omega arith)) j u h
+
   -- a merge: the tree of the first gets the tree of the second behind it
   pub tree-join : (waits : Waits) (s p : ℕ) (r : WaitRecord S) → place S (r .first) (suc s) ≡ p
-      → treeOf (update2 waits (suc s) p (waits (suc s) p ++ (r ∷ []))) (suc s) (r .first) ≡ join (treeOf waits (suc s) (r .first)) (r .operation) (treeOf waits s (r .second))
+      → let after = update2 waits (suc s) p (waits (suc s) p ++ (r ∷ [])) in
+      treeOf after (suc s) (r .first) ≡ join (treeOf waits (suc s) (r .first)) (r .operation) (treeOf waits s (r .second))
   unfolding treeOf
-  tree-join waits s p r e = rw (e, update2-same, records-append S, records-own S r [], records-none S (r .first) nil, fun-ext (λ v. below waits (update2 waits (suc s) p (waits (suc s) p ++ (r ∷ []))) s (λ j q h. update2-level waits (suc s) p _ j q (omega arith)) s v (omega arith)), grown-append)
+  tree-join waits s p r e =
+      let after = update2 waits (suc s) p (waits (suc s) p ++ (r ∷ [])) in
+      let same : treeOf after s ≡ treeOf waits s = fun-ext (λ v. gone-below waits s p (waits (suc s) p ++ (r ∷ [])) s v (omega arith)) in
+      rw (e, update2-same, records-append S, records-own S r [], records-none S (r .first) nil, same, grown-append)
 
   -- and no other tree changes
   pub tree-other : (waits : Waits) (s p : ℕ) (r : WaitRecord S) → ((j q : ℕ) → All (λ (z : WaitRecord S). z .second ≢ r .first) (waits j q))
       → (j u : ℕ) → u ≢ r .first → treeOf (update2 waits s p (waits s p ++ (r ∷ []))) j u ≡ treeOf waits j u
-  tree-other waits s p r free = agree (r .first) waits (update2 waits s p (waits s p ++ (r ∷ []))) (λ j q u n. update2-ind waits s p (waits s p ++ (r ∷ [])) (λ j q l. recordsOf S u l ≡ recordsOf S u (waits j q))
-      (records-append S u (waits s p) (r ∷ []) ∙ rw (records-other S u r [] n, records-none S u nil) (append-nil (recordsOf S u (waits s p)))) (λ _ _ _. refl) j q) free
+  tree-other waits s p r free =
+      agree (r .first) waits (update2 waits s p (waits s p ++ (r ∷ [])))
+      (λ j q u n. update2-ind waits s p (waits s p ++ (r ∷ [])) (λ j q l. recordsOf S u l ≡ recordsOf S u (waits j q))
+      (records-append S u (waits s p) (r ∷ []) ∙ rw (records-other S u r [] n, records-none S u nil) (append-nil (recordsOf S u (waits s p))))
+      (λ _ _ _. refl) j q) free
 
   -- ---- a record that goes: z, of the first tag z .first
   pub records-middle : (xs : List (WaitRecord S)) (z : WaitRecord S) (ys : List (WaitRecord S))
       → recordsOf S (z .first) (xs ++ (z ∷ ys)) ≡ recordsOf S (z .first) xs ++ (z ∷ recordsOf S (z .first) ys)
   records-middle xs z ys = rw (records-append S (z .first) xs (z ∷ ys), records-own S z ys)
 
-  -- whatever stands there then, a tree below does not change
-  pub gone-below : (waits : Waits) (s p : ℕ) (l : List (WaitRecord S)) (j u : ℕ) → j ≤ s → treeOf (update2 waits (suc s) p l) j u ≡ treeOf waits j u
-  gone-below waits s p l j u h = below waits (update2 waits (suc s) p l) s (λ i q k. update2-level waits (suc s) p _ i q (omega arith)) j u h
-
   module _ (waits : Waits) (s p : ℕ) (xs : List (WaitRecord S)) (z : WaitRecord S) (ys : List (WaitRecord S)) (is : waits (suc s) p ≡ xs ++ (z ∷ ys)) where
-    pub gone-other : ((j q : ℕ) → All (λ (r : WaitRecord S). r .second ≢ z .first) (waits j q)) → (j u : ℕ) → u ≢ z .first → treeOf (update2 waits (suc s) p (xs ++ ys)) j u ≡ treeOf waits j u
-    gone-other free = agree (z .first) waits (update2 waits (suc s) p (xs ++ ys)) (λ j q u n. update2-ind waits (suc s) p (xs ++ ys) (λ j q l. recordsOf S u l ≡ recordsOf S u (waits j q))
+    pub gone-other : ((j q : ℕ) → All (λ (r : WaitRecord S). r .second ≢ z .first) (waits j q)) → (j u : ℕ) → u ≢ z .first
+        → treeOf (update2 waits (suc s) p (xs ++ ys)) j u ≡ treeOf waits j u
+    gone-other free =
+        agree (z .first) waits (update2 waits (suc s) p (xs ++ ys))
+        (λ j q u n. update2-ind waits (suc s) p (xs ++ ys) (λ j q l. recordsOf S u l ≡ recordsOf S u (waits j q))
         (rw (is, records-append S, records-append S u xs (z ∷ ys), records-other S u z ys n)) (λ _ _ _. refl) j q) free

@@ -1,3 +1,4 @@
+-- The machine as a definition over any setup, from its parts to demand 3; and document 01's setup.
 pub mod Setup
 pub mod Arrival
 pub mod State

@@ -17,6 +17,7 @@ module _ (S : Setup) where
     pub addresses : (s p : ℕ) → All (λ (m : Message S). m .address ≡ addressOf (m .tag)) (st .requests s p)
     -- the order list has room for what a module may take
     pub room : length (st .order) ≤ R
-    pub next : (p : ℕ) (m : Message S) (rest : List (Message S)) → st .requests k p ≡ m ∷ rest → length (st .order) + length (standsFor S (st .waits) k (m .tag)) ≤ R
+    pub next : (p : ℕ) (m : Message S) (rest : List (Message S)) → st .requests k p ≡ m ∷ rest
+        → length (st .order) + length (standsFor S (st .waits) k (m .tag)) ≤ R
     pub accesses : st .accesses ≤ R
     pub merges : st .merges ≤ R * (2 * k + 2)

@@ -7,7 +7,7 @@ use native.Mathlib.Omega.{arith}
 use Rattle.lists.specs.Search.{nil}
 use Rattle.lists.proofs.Every.{all-append}
 use Rattle.event.specs.Event.{Event}
-use Rattle.view.specs.View.{Fixed, View}
+use Rattle.view.specs.View.{View}
 use Rattle.machine.specs.State.{State, start}
 use Rattle.machine.specs.Run.{runEvents}
 use Rattle.machine.specs.Lawful.{Lawful}
