@@ -94,7 +94,7 @@ module _ (x : Network) (v : View) (words : ℕ → ℕ) where
       abbrev c : Words
       c = valued (v .carried (r .second)) (applied (operationIn (v .carried (r .second))) (v .carried t .first))
 
-      elsewhere : (w : Where (setup x)) → w ≢ waiting (suc s) p → tagTimes x v (r .second) w ≡ 0
+      elsewhere : (w : Where) → w ≢ waiting (suc s) p → tagTimes x v (r .second) w ≡ 0
       elsewhere w n = A .elsewhere (r .second) (waiting (suc s) p) w here n
 
       pub return-splits : length (v .replies s to) < x .Q →
