@@ -7,9 +7,11 @@ use native.Mathlib.Decide.{ℕ-discrete}
 use native.Mathlib.Omega.{arith}
 use lib.ListN.{length, getD, set, length-append, length-set}
 use lib.Seq.{getD-set-same, getD-set-other}
+use lib.Dec.{eqb}
 use borrow.Author.Tests.{eq-eqb, ne-eqb}
 use Rattle.lists.specs.Choice.{choose}
 use Rattle.lists.proofs.Tests.{by-cases}
+use Rattle.lists.proofs.Searches.{some-more}
 use Rattle.event.specs.Event.{Act}
 use Rattle.view.specs.View.{View}
 use Rattle.trace.specs.Bytes.{total}
@@ -19,7 +21,7 @@ use Rattle.trace.specs.Contents.{contents, add, shapeOf, wordsGiven, requestsOf
 use Rattle.trace.specs.Refusals.{fault}
 use Rattle.trace.specs.Known.{movedPast, shaped, asked, Same}
 use Rattle.trace.specs.declared.progress.Progress.{Progress}
-use Rattle.trace.proofs.Contents.{given-more, start-words-more}
+use Rattle.trace.proofs.Contents.{start-words-more}
 use Rattle.trace.proofs.Ranges.{act-section, shape-in-range, shape-first}
 use Rattle.trace.proofs.Known.{act-same, known-same}
 use Rattle.load.specs.Machine.{RequestsHeld}
@@ -29,7 +31,7 @@ use Rattle.load.proofs.Machine.{held-none, put-held}
 -- the marks after one more word
 marked : (marks : List ℕ) (ws : List Word) (w : Word) → w .address < length marks → ((a : ℕ) → a < 256 → getD marks a 0 ≡ choose (given ws a) 1 0) →
     (a : ℕ) → a < 256 → getD (set marks (w .address) 1) a 0 ≡ choose (given (ws ++ (w ∷ [])) a) 1 0
-marked marks ws w inside old a low = rw (given-more ws w a) (by-cases (ℕ-discrete a (w .address))
+marked marks ws w inside old a low = rw (some-more (λ v. eqb (v .address) a) ws w) (by-cases (ℕ-discrete a (w .address))
     (λ (e : a ≡ w .address). rw (e, eq-eqb (w .address) (w .address) refl) (getD-set-same marks (w .address) 1 0 inside))
     (λ (n : a ≢ w .address). rw (getD-set-other marks (w .address) a 1 0 n, ne-eqb (w .address) a (λ e. n (sym e))) (old a low)))
 

@@ -8,6 +8,7 @@ use lib.ListN.{length, getD, drop, replicate, length-replicate, getD-replicate}
 use lib.Seq.{drop-drop}
 use borrow.Author.Tests.{ne-eqb, lt-ltb, le-ltb}
 use Rattle.lists.specs.Choice.{choose}
+use Rattle.lists.specs.Search.{some}
 use Rattle.store.specs.Layout.{size as machineSize}
 use Rattle.store.proofs.Blank.{zeros-blank}
 use Rattle.trace.specs.Item.{request, Items, none, after}
@@ -103,7 +104,7 @@ unfolding contents startWords putWords
 none-loaded = record { words-are = refl; sized = zeros-blank .sized; requests-are = none-held 0 (zeros-blank .holds) }
 
 pub inside-start : (s : List ℕ) → length s ≤ 65536 → Inside s begun (replicate 256 0) (replicate 256 0) (replicate machineSize 0)
-unfolding check size lastSection contents given actsAt
+unfolding check size lastSection contents some actsAt
 inside-start s short = record {
   short = short;
   at-inside = omega arith;
@@ -145,7 +146,7 @@ loaded-as v e answer sized marks loaded = record {
 }
 
 pub loaded-long : (s : List ℕ) → 65536 < length s → Loaded s (Refused Long 0) (replicate 256 0) (replicate 256 0) (replicate machineSize 0)
-unfolding check size contents given
+unfolding check size contents some
 loaded-long s long =
     loaded-as (refused 10 none) (simp (lt-ltb 65536 (length s) long)) refl (length-replicate {A = ℕ} 256 0) (λ a low. getD-replicate 256 a 0 0 low) none-loaded
 

@@ -1,16 +1,18 @@
 -- Laws of the addresses that a trace names.
 use Prim.Native.Nat.{ℕ, zero, suc, _+_, _≤_, _<_}
 use mathlib.Core.Path.{_≡_, refl, sym, _∙_, ap}
-use mathlib.Core.Bool.{Bool, true, false}
-use mathlib.Core.List.{List, [], _∷_, _++_}
+use mathlib.Core.Bool.{true}
+use mathlib.Core.List.{List}
 use native.Mathlib.Numerals.{add-one}
 use native.Mathlib.Omega.{arith}
 use lib.ListN.{length, getD, set, take, length-set}
 use lib.Seq.{getD-set-same, getD-set-other, take-suc, take-length}
 use lib.Dec.{eqb}
 use Rattle.lists.specs.Choice.{choose}
+use Rattle.lists.specs.Search.{some}
 use Rattle.lists.specs.Table.{listBelow}
-use Rattle.lists.proofs.Tests.{eqb-cases}
+use Rattle.lists.proofs.Tests.{eqb-cases, choose-swap}
+use Rattle.lists.proofs.Searches.{some-more}
 use Rattle.lists.proofs.Below.{below-is}
 use Rattle.store.specs.Memory.{view}
 use Rattle.trace.specs.Item.{Request}
@@ -22,23 +24,12 @@ use Rattle.run.specs.Run.{itemsIn}
 use Rattle.report.specs.Names.{asksBelow, Marked}
 
 -- ---- the addresses of the requests
-asks-more : (rs : List Request) (r : Request) (a : ℕ) → asksFor (rs ++ (r ∷ [])) a ≡ choose (eqb (r .address) a) true (asksFor rs a)
-unfolding asksFor
-asks-more [] r a = refl
-asks-more (q ∷ rs) r a = rw (asks-more rs r a) (swap (eqb (q .address) a) (eqb (r .address) a) (asksFor rs a))
-  where
-    swap : (t u v : Bool) → choose t true (choose u true v) ≡ choose u true (choose t true v)
-    swap true true v = refl
-    swap true false v = refl
-    swap false true v = refl
-    swap false false v = refl
-
 module _ (rs : List Request) (address : ℕ → ℕ) (same : (t : ℕ) → t < length rs → address t ≡ requestAt rs t .address) (a : ℕ) where
   asks-first : (n : ℕ) → n ≤ length rs → asksBelow address n a ≡ asksFor (take n rs) a
-  unfolding asksBelow asksFor
+  unfolding asksBelow some
   asks-first zero l = refl
   asks-first (suc n) l =
-      rw (asks-first n (omega arith), take-suc rs n noRequest (omega arith), asks-more (take n rs) (requestAt rs n) a, same n (omega arith))
+      rw (asks-first n (omega arith), take-suc rs n noRequest (omega arith), some-more (λ (r : Request). eqb (r .address) a) (take n rs) (requestAt rs n), same n (omega arith))
 
   asks-all : asksBelow address (length rs) a ≡ asksFor rs a
   asks-all = asks-first (length rs) (omega arith) ∙ ap (λ (l : List Request). asksFor l a) (take-length rs)
@@ -67,10 +58,4 @@ trace-named {trace} {m = m} {after = after} {n = n} l size d =
     below-is 0 256 (named (itemsIn trace)) after (d .size)
     (λ a low. d .marks a low
     ∙ rw (l .marks-are a low, size, asks-all (requestsOf (itemsIn trace)) (view m .fixed .address) (λ t h. l .requests-are .each t h .address-is) a)
-    (order (asksFor (requestsOf (itemsIn trace)) a) (given (wordsGiven (itemsIn trace)) a)))
-  where
-    order : (t u : Bool) → _≡_ {A = ℕ} (choose t 1 (choose u 1 0)) (choose u 1 (choose t 1 0))
-    order true true = refl
-    order true false = refl
-    order false true = refl
-    order false false = refl
+    (choose-swap (asksFor (requestsOf (itemsIn trace)) a) (given (wordsGiven (itemsIn trace)) a) 1 0))

@@ -1,19 +1,10 @@
 -- One more word in the memory.
 use Prim.Native.Nat.{ℕ}
 use mathlib.Core.Path.{_≡_, refl}
-use mathlib.Core.Bool.{true}
 use mathlib.Core.List.{List, [], _∷_, _++_}
 use lib.ListN.{set, replicate}
-use lib.Dec.{eqb}
-use Rattle.lists.specs.Choice.{choose}
-use Rattle.lists.proofs.Tests.{choose-swap}
 use Rattle.trace.specs.Item.{Word}
-use Rattle.trace.specs.Contents.{given, putWords, startWords}
-
-pub given-more : (ws : List Word) (w : Word) (a : ℕ) → given (ws ++ (w ∷ [])) a ≡ choose (eqb (w .address) a) true (given ws a)
-unfolding given
-given-more [] w a = refl
-given-more (v ∷ ws) w a = rw (given-more ws w a) (choose-swap (eqb (v .address) a) (eqb (w .address) a) true (given ws a))
+use Rattle.trace.specs.Contents.{putWords, startWords}
 
 put-words-more : (memory : List ℕ) (ws : List Word) (w : Word) → putWords memory (ws ++ (w ∷ [])) ≡ set (putWords memory ws) (w .address) (w .value)
 unfolding putWords

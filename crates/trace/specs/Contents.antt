@@ -1,10 +1,11 @@
 -- What items say together: the shape, the words, the requests and the acts, and the memory that follows from them.
 use Prim.Native.Nat.{ℕ, _+_}
-use mathlib.Core.Bool.{Bool, true, false}
+use mathlib.Core.Bool.{Bool}
 use mathlib.Core.List.{List, [], _∷_, _++_}
 use lib.ListN.{set, replicate, getD}
 use lib.Dec.{eqb, ltb}
 use Rattle.lists.specs.Choice.{choose}
+use Rattle.lists.specs.Search.{some}
 use Rattle.event.specs.Event.{Act}
 use Rattle.trace.specs.Item.{Shape, Word, Request, Item, shape, word, request, act, Items, none, after}
 use Rattle.trace.specs.Table.{section, recordSize}
@@ -49,9 +50,8 @@ abbrev pub requestAt : List Request → ℕ → Request
 requestAt requests t = getD requests t noRequest
 
 -- "a word address given": one of the words has address a
-unfoldable pub given : List Word → ℕ → Bool
-given [] a = false
-given (w ∷ ws) a = choose (eqb (w .address) a) true (given ws a)
+abbrev pub given : List Word → ℕ → Bool
+given ws a = some (λ w. eqb (w .address) a) ws
 
 -- a memory after word records: "address, value"
 unfoldable pub putWords : List ℕ → List Word → List ℕ
