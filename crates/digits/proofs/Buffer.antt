@@ -6,7 +6,7 @@ use native.Mathlib.Nat.{add-zero, add-suc, suc-add, zero-add}
 use native.Mathlib.Omega.{arith}
 use lib.ListN.{length, take, set, length-append}
 use lib.Seq.{sets, length-sets, sets-eq, take-append-seam}
-use Rattle.digits.specs.Buffer.{Wrote, Printed}
+use Rattle.digits.specs.Inner.Buffer.{Wrote, Printed}
 
 sets-append : (before : List ℕ) (at : ℕ) (first second : List ℕ) → sets before at (first ++ second) ≡ sets (sets before at first) (at + length first) second
 sets-append before at [] second = ap (λ (k : ℕ). sets before k second) (sym (add-zero at))

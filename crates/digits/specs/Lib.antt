@@ -1,3 +1,4 @@
+-- The definitions of this crate.
 pub mod Numeral
 pub mod Line
-pub mod Buffer
+pub mod Inner

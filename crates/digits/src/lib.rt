@@ -5,7 +5,7 @@ ghost use Prim.Native.Nat.{_+_, _≤_, _<_};
 ghost use lib.ListN.{length};
 ghost use Rattle.digits.specs.Numeral.{digit, decimal};
 ghost use Rattle.digits.specs.Line.{line};
-ghost use Rattle.digits.specs.Buffer.{Wrote};
+ghost use Rattle.digits.specs.Inner.Buffer.{Wrote};
 
 // A line of a name and a number.
 pub fn put_line(out: &mut [u8], at: usize, name: &[u8], n: u64) -> usize

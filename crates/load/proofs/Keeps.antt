@@ -13,19 +13,19 @@ use Rattle.lists.specs.Choice.{choose}
 use Rattle.lists.proofs.Tests.{by-cases}
 use Rattle.lists.proofs.Searches.{some-more}
 use Rattle.event.specs.Event.{Act}
-use Rattle.view.specs.View.{View}
+use Rattle.view.specs.Inner.View.{View}
 use Rattle.trace.specs.Bytes.{total}
 use Rattle.trace.specs.Item.{Shape, Word, Request, shape, word, request, act, Items}
 use Rattle.trace.specs.Table.{partsOf, recordSize, size}
 use Rattle.trace.specs.Contents.{contents, add, shapeOf, wordsGiven, requestsOf, given, startWords, lastSection, actsAt}
 use Rattle.trace.specs.Refusals.{fault}
-use Rattle.trace.specs.Known.{movedPast, shaped, asked, Same}
+use Rattle.trace.specs.Inner.Known.{movedPast, shaped, asked, Same}
 use Rattle.trace.specs.declared.progress.Progress.{Progress}
 use Rattle.trace.proofs.Contents.{start-words-more}
 use Rattle.trace.proofs.Ranges.{act-section, shape-in-range, shape-first}
 use Rattle.trace.proofs.Known.{act-same, known-same}
-use Rattle.load.specs.Machine.{RequestsHeld}
-use Rattle.load.specs.Loop.{LoadedSoFar, Room, RequestPut, Keeps}
+use Rattle.load.specs.Inner.Machine.{RequestsHeld}
+use Rattle.load.specs.Inner.Loop.{LoadedSoFar, Room, RequestPut, Keeps}
 use Rattle.load.proofs.Machine.{held-none, put-held}
 
 -- the marks after one more word

@@ -9,13 +9,14 @@ use lib.ListN.{length, length-append, List·getD-append}
 use lib.Seq.{getD-append-seam}
 use Rattle.lists.proofs.Tables.{update-same, update-other}
 use Rattle.lists.proofs.Tests.{by-cases}
-use Rattle.view.specs.View.{View, blank, withRequest}
-use Rattle.wiring.specs.Wiring.{moduleOf, PathOf}
-use Rattle.store.specs.Memory.{view}
+use Rattle.wiring.specs.Wiring.{moduleOf}
+use Rattle.wiring.specs.Inner.Path.{PathOf}
+use Rattle.view.specs.Inner.View.{View, blank, withRequest}
+use Rattle.store.specs.Inner.Memory.{view}
 use Rattle.trace.specs.Item.{Request}
 use Rattle.trace.specs.Contents.{noRequest, requestAt}
-use Rattle.load.specs.Machine.{askedBy, RequestHeld, RequestsHeld}
-use Rattle.load.specs.Loop.{RequestPut}
+use Rattle.load.specs.Inner.Machine.{askedBy, RequestHeld, RequestsHeld}
+use Rattle.load.specs.Inner.Loop.{RequestPut}
 
 -- where nothing is loaded, no request is held
 pub none-held : (k : ℕ) {v : View} → v ≡ blank → RequestsHeld k [] v

@@ -3,10 +3,10 @@ use Prim.Native.Nat.{ℕ}
 use mathlib.Core.Path.{_≡_, refl, sym, _∙_}
 use mathlib.Core.List.{List}
 use native.Mathlib.Omega.{arith}
-use Rattle.trace.specs.Known.{Passed}
+use Rattle.trace.specs.Inner.Known.{Passed}
 use Rattle.trace.specs.declared.progress.Progress.{Progress}
 use Rattle.trace.proofs.Known.{known-same}
-use Rattle.load.specs.Loop.{Onward}
+use Rattle.load.specs.Inner.Loop.{Onward}
 use Rattle.load.proofs.Keeps.{loaded-same}
 
 pub onward-run : (s : List ℕ) (p : Progress) (end : ℕ) → Passed s (p .k) (p .at) end → p .section ≡ 4 →

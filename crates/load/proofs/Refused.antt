@@ -6,10 +6,11 @@ use Rattle.lists.proofs.Tests.{clash}
 use Rattle.trace.specs.Item.{Items}
 use Rattle.trace.specs.Table.{size}
 use Rattle.trace.specs.Check.{Verdict, refused, accepted, check}
-use Rattle.trace.specs.Answers.{numberOf, refusal, answered}
+use Rattle.trace.specs.Answers.{numberOf}
+use Rattle.trace.specs.Inner.Told.{refusal, answered}
 use Rattle.trace.specs.declared.Fault.{Fault}
 use Rattle.trace.specs.declared.Answer.the-variants.{Refused}
-use Rattle.load.specs.Loaded.{Loaded}
+use Rattle.load.specs.Inner.Loaded.{Loaded}
 
 pub record Closed (s : List ℕ) (f : Fault) (at : ℕ) : Type 0 where
   pub before : Items

@@ -4,22 +4,22 @@ use mathlib.Core.Path.{_≡_, refl, sym, _∙_, subst}
 use mathlib.Core.List.{List}
 use native.Mathlib.Omega.{arith}
 use lib.ListN.{length, take, drop}
-use Rattle.store.specs.Layout.{size as machineSize}
+use Rattle.store.specs.Inner.Layout.{size as machineSize}
 use Rattle.trace.specs.Bytes.{AreBytes, number, total}
 use Rattle.trace.specs.Item.{Request, request}
 use Rattle.trace.specs.Table.{rows, firstRow, bodyRow, partsOf}
 use Rattle.trace.specs.Contents.{lastSection}
 use Rattle.trace.specs.Refusals.{fault, orElse, mayFollow, ownFault}
-use Rattle.trace.specs.Known.{requestIn, RecordFault, moved, asked}
-use Rattle.load.specs.Loop.{RequestPut, Inside, pastRequests, RequestsPassed, RequestsOnward}
+use Rattle.trace.specs.Inner.Known.{requestIn, RecordFault, moved, asked}
 use Rattle.trace.specs.declared.rules.Finding.the-variants.{Clean}
 use Rattle.trace.specs.declared.progress.Progress.{Progress}
 use Rattle.trace.proofs.Table.{says-request}
 use Rattle.trace.proofs.Records.{is-whole, body-at}
 use Rattle.trace.proofs.Ranges.{requestFault, request-right}
+use Rattle.trace.proofs.Runs.{header-whole}
+use Rattle.load.specs.Inner.Loop.{RequestPut, Inside, pastRequests, RequestsPassed, RequestsOnward}
 use Rattle.load.proofs.Keeps.{keeps-request}
 use Rattle.load.proofs.Verdicts.{turn-go}
-use Rattle.trace.proofs.Runs.{header-whole}
 
 -- behind a request another may follow, so its own faults decide
 request-found : {p : Progress} {marks : List ℕ} {r : Request} → p .section ≡ 3 → requestFault (p .k) (p .requests) r ≡ 0 → RecordFault p marks (request r) Clean

@@ -9,7 +9,7 @@ use lib.Seq.{drop-drop}
 use borrow.Author.Tests.{ne-eqb, lt-ltb, le-ltb}
 use Rattle.lists.specs.Choice.{choose}
 use Rattle.lists.specs.Search.{some}
-use Rattle.store.specs.Layout.{size as machineSize}
+use Rattle.store.specs.Inner.Layout.{size as machineSize}
 use Rattle.store.proofs.Blank.{zeros-blank}
 use Rattle.trace.specs.Item.{request, Items, none, after}
 use Rattle.trace.specs.Table.{item, section, size}
@@ -17,8 +17,9 @@ use Rattle.trace.specs.Records.{nothing, faulty, whole, split, records}
 use Rattle.trace.specs.Contents.{contents, wordsGiven, given, startWords, putWords, lastSection, actsAt}
 use Rattle.trace.specs.Refusals.{fault}
 use Rattle.trace.specs.Check.{Verdict, refused, accepted, itemsOf, ended, decide, checkRecords, check}
-use Rattle.trace.specs.Answers.{numberOf, refusal, answered, tells}
-use Rattle.trace.specs.Known.{requestIn, Known, Bodied, RecordFault, begun}
+use Rattle.trace.specs.Answers.{numberOf}
+use Rattle.trace.specs.Inner.Told.{refusal, answered, tells}
+use Rattle.trace.specs.Inner.Known.{requestIn, Known, Bodied, RecordFault, begun}
 use Rattle.trace.specs.declared.Fault.{Fault}
 use Rattle.trace.specs.declared.Fault.the-variants.{Long}
 use Rattle.trace.specs.declared.Answer.{Answer}
@@ -29,8 +30,8 @@ use Rattle.trace.proofs.Table.{size-item, says-request}
 use Rattle.trace.proofs.Records.{records-nothing, records-faulty, records-whole}
 use Rattle.trace.proofs.Answers.{number-range}
 use Rattle.trace.proofs.Ranges.{section-some, requests-few, engine-below}
-use Rattle.load.specs.Loaded.{Loaded}
-use Rattle.load.specs.Loop.{LoadedSoFar, Keeps, reading, Decided, Inside, TurnRight}
+use Rattle.load.specs.Inner.Loaded.{Loaded}
+use Rattle.load.specs.Inner.Loop.{LoadedSoFar, Keeps, reading, Decided, Inside, TurnRight}
 use Rattle.load.specs.declared.turn.Turn.the-variants.{Stop, Fail, Go}
 use Rattle.load.proofs.Machine.{none-held}
 

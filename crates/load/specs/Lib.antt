@@ -1,3 +1,2 @@
-pub mod Machine
-pub mod Loaded
-pub mod Loop
+-- The definitions of this crate.
+pub mod Inner

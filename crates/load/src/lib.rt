@@ -1,9 +1,9 @@
 // A whole trace checked, and its words and requests loaded: document 01, "What a trace is told".
 ghost use mathlib.Core.Path.{_≡_};
 ghost use lib.ListN.{replicate};
-ghost use Rattle.store.specs.Layout.{size as machineSize};
-ghost use Rattle.load.specs.Loaded.{Loaded};
-ghost use Rattle.load.specs.Loop.{reading};
+ghost use Rattle.store.specs.Inner.Layout.{size as machineSize};
+ghost use Rattle.load.specs.Inner.Loaded.{Loaded};
+ghost use Rattle.load.specs.Inner.Loop.{reading};
 use store::Machine;
 use trace::Answer;
 use trace::Facts;

@@ -2,11 +2,11 @@
 ghost use mathlib.Core.Path.{_≡_};
 ghost use Prim.Native.Nat.{_≤_, _<_, _^_};
 ghost use lib.ListN.{length, getD, set};
-ghost use Rattle.store.specs.Layout.{size as machineSize};
+ghost use Rattle.store.specs.Inner.Layout.{size as machineSize};
 ghost use Rattle.trace.specs.Bytes.{number};
 ghost use Rattle.trace.specs.Table.{item};
-ghost use Rattle.trace.specs.Known.{requestIn};
-ghost use Rattle.load.specs.Loop.{MayNote, Keeps, RequestPut};
+ghost use Rattle.trace.specs.Inner.Known.{requestIn};
+ghost use Rattle.load.specs.Inner.Loop.{MayNote, Keeps, RequestPut};
 use operation::Words;
 use store::Machine;
 use trace::bytes::number8;

@@ -2,8 +2,8 @@
 ghost use mathlib.Core.Path.{_≡_};
 ghost use Prim.Native.Nat.{_+_, _≤_};
 ghost use lib.ListN.{length};
-ghost use Rattle.store.specs.Layout.{size as machineSize};
-ghost use Rattle.load.specs.Loop.{Inside, TurnRight, RequestsPassed, RequestsOnward, Onward};
+ghost use Rattle.store.specs.Inner.Layout.{size as machineSize};
+ghost use Rattle.load.specs.Inner.Loop.{Inside, TurnRight, RequestsPassed, RequestsOnward, Onward};
 use crate::put::noted;
 use crate::put::put_request;
 use store::Machine;

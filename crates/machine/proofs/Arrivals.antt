@@ -13,7 +13,7 @@ use Rattle.lists.proofs.Searches.{Last, lastOf-is, First, firstOf-is}
 use Rattle.lists.proofs.Tests.{ltb-either}
 use Rattle.machine.specs.Setup.{Setup, Message, WaitRecord}
 use Rattle.machine.specs.Arrival.{Node, Arrival, merged, appended, refused, append, combine, meet, youngest, arrive, oldestOf, recordsOf}
-use Rattle.machine.specs.Lawful.{Lawful}
+use Rattle.machine.specs.Inner.Lawful.{Lawful}
 use Rattle.machine.proofs.Records.{records-none}
 use Rattle.machine.proofs.Moves.{withBehind, withMerged}
 

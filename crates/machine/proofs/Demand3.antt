@@ -10,7 +10,7 @@ use Rattle.machine.specs.Setup.{Setup}
 use Rattle.machine.specs.State.{State, start}
 use Rattle.machine.specs.Run.{eventsOf, moments}
 use Rattle.machine.specs.Order.{Named, atStart, Demand3}
-use Rattle.machine.specs.Lawful.{Lawful}
+use Rattle.machine.specs.Inner.Lawful.{Lawful}
 use Rattle.machine.proofs.Progress.{Live}
 use Rattle.machine.proofs.Start.{start-live}
 use Rattle.machine.proofs.Moments.{acts-events, acts-fit, after-final, every-moment}

@@ -17,7 +17,7 @@ use Rattle.machine.specs.State.{State}
 use Rattle.machine.specs.Steps.{step}
 use Rattle.machine.specs.Run.{round, runEvents, isAnswered, answeredBelow, allAnswered, Ran, drainRun, runAct, runActs}
 use Rattle.machine.specs.Order.{Named}
-use Rattle.machine.specs.Lawful.{Lawful}
+use Rattle.machine.specs.Inner.Lawful.{Lawful}
 use Rattle.machine.proofs.Tags.{waiterTag}
 use Rattle.machine.proofs.Invariant.{Invariant, Above}
 use Rattle.machine.proofs.Places.{Spot, atEnd, atRequest, atWait, atReply, wait-level, remaining-none, left, Held}

@@ -16,7 +16,7 @@ use Rattle.lists.proofs.Stacks.{concat-append, stack, stack-onward}
 use Rattle.machine.specs.Setup.{Setup, Message, WaitRecord, Reply, place}
 use Rattle.machine.specs.Arrival.{recordsOf}
 use Rattle.machine.specs.State.{State, withRequests, withWaits}
-use Rattle.machine.specs.Lawful.{Lawful}
+use Rattle.machine.specs.Inner.Lawful.{Lawful}
 use Rattle.machine.proofs.Labels.{relabel}
 use Rattle.machine.proofs.Records.{records-none}
 use Rattle.machine.proofs.Tags.{messageTag, replyTag}

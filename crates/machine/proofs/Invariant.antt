@@ -21,7 +21,7 @@ use Rattle.lists.proofs.Stacks.{concat, stack}
 use Rattle.machine.specs.Setup.{Setup, Message, WaitRecord, Reply, place}
 use Rattle.machine.specs.State.{State, tagsBelow}
 use Rattle.machine.specs.Single.{runSingly, reads}
-use Rattle.machine.specs.Lawful.{Lawful}
+use Rattle.machine.specs.Inner.Lawful.{Lawful}
 use Rattle.machine.proofs.Labels.{away}
 use Rattle.machine.proofs.Tags.{messageTag, waiterTag, replyTag}
 use Rattle.machine.proofs.Tree.{Waits, inOrder, treeOf}

@@ -6,7 +6,7 @@ use Rattle.lists.specs.Search.{All, nil, cons}
 use Rattle.lists.proofs.Every.{all-map, all-append}
 use Rattle.machine.specs.Setup.{Setup, WaitRecord, place}
 use Rattle.machine.specs.State.{standsFor, seconds}
-use Rattle.machine.specs.Lawful.{Lawful}
+use Rattle.machine.specs.Inner.Lawful.{Lawful}
 use Rattle.machine.proofs.Records.{records-all}
 use Rattle.machine.proofs.Tree.{Waits, inOrder, treeOf, stands-tree}
 

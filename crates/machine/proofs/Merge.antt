@@ -16,7 +16,7 @@ use Rattle.lists.proofs.Stacks.{concat-append, concat-eq, all-concat, stack, st
 use Rattle.machine.specs.Setup.{Setup, Message, WaitRecord, Reply, place}
 use Rattle.machine.specs.State.{State}
 use Rattle.machine.specs.Single.{reads}
-use Rattle.machine.specs.Lawful.{Lawful}
+use Rattle.machine.specs.Inner.Lawful.{Lawful}
 use Rattle.machine.proofs.Labels.{relabel}
 use Rattle.machine.proofs.Tags.{messageTag, waiterTag, replyTag}
 use Rattle.machine.proofs.Tree.{Tree, inOrder, treeOf, tree-join, tree-other}

@@ -17,7 +17,7 @@ use Rattle.machine.specs.Setup.{Setup, Message, Reply}
 use Rattle.machine.specs.State.{State}
 use Rattle.machine.specs.Steps.{taken}
 use Rattle.machine.specs.Single.{runSingly, reads}
-use Rattle.machine.specs.Lawful.{Lawful}
+use Rattle.machine.specs.Inner.Lawful.{Lawful}
 use Rattle.machine.proofs.Labels.{relabel}
 use Rattle.machine.proofs.Tags.{messageTag, replyTag}
 use Rattle.machine.proofs.Tree.{inOrder, treeOf, stands-tree}

@@ -13,7 +13,7 @@ use Rattle.machine.specs.State.{State}
 use Rattle.machine.specs.Steps.{step}
 use Rattle.machine.specs.Run.{round, runEvents, allAnswered, Ran, drainRun, runAct, runActs, drainEvents, eventsOf, afterEach, moments}
 use Rattle.machine.specs.Order.{Named}
-use Rattle.machine.specs.Lawful.{Lawful}
+use Rattle.machine.specs.Inner.Lawful.{Lawful}
 use Rattle.machine.proofs.Rounds.{round-fits}
 
 module _ (S : Setup) where

@@ -10,7 +10,7 @@ use Rattle.operation.specs.declared.Merged.the-variants.{One, Never}
 use Rattle.operation.proofs.Laws.{merge-applies}
 use Rattle.wiring.specs.Wiring.{moduleOf}
 use Rattle.wiring.proofs.Laws.{module-below, position-below, position-engine, position-onward}
-use Rattle.machine.specs.Lawful.{Lawful}
+use Rattle.machine.specs.Inner.Lawful.{Lawful}
 use Rattle.machine.specs.Omega.{omegaNetwork, oneOf}
 
 merge-one : (f g h : Operation) → oneOf (merged f g) ≡ some h → (x : ℕ) → applied h x ≡ applied g (applied f x)

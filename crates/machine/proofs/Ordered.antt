@@ -19,7 +19,7 @@ use Rattle.machine.specs.State.{State, tagsBelow}
 use Rattle.machine.specs.Run.{isAnswered}
 use Rattle.machine.specs.Single.{reads}
 use Rattle.machine.specs.Order.{Ordered, Unissued}
-use Rattle.machine.specs.Lawful.{Lawful}
+use Rattle.machine.specs.Inner.Lawful.{Lawful}
 use Rattle.machine.proofs.Tags.{messageTag}
 use Rattle.machine.proofs.Tree.{treeOf}
 use Rattle.machine.proofs.Served.{served-root}

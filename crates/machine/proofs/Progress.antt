@@ -11,7 +11,7 @@ use Rattle.lists.proofs.Counts.{same-yes, same-no, count-append}
 use Rattle.machine.specs.Setup.{Setup, Message, WaitRecord, Reply, place}
 use Rattle.machine.specs.State.{State}
 use Rattle.machine.specs.Steps.{taken, split, lowered, collectOldest}
-use Rattle.machine.specs.Lawful.{Lawful}
+use Rattle.machine.specs.Inner.Lawful.{Lawful}
 use Rattle.machine.proofs.Tags.{messageTag, waiterTag, replyTag}
 use Rattle.machine.proofs.Moves.{afterAppend, afterMerge, Move, appending, merging, serving, answering, lowering, collecting}
 use Rattle.machine.proofs.Invariant.{Invariant}

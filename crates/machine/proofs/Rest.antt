@@ -14,7 +14,7 @@ use Rattle.machine.specs.State.{State, start}
 use Rattle.machine.specs.Steps.{step}
 use Rattle.machine.specs.Run.{runEvents, isAnswered, allAnswered, Ran, drainRun, runAct, runActs, moments}
 use Rattle.machine.specs.Order.{Named, atStart}
-use Rattle.machine.specs.Lawful.{Lawful}
+use Rattle.machine.specs.Inner.Lawful.{Lawful}
 use Rattle.machine.proofs.Moves.{Move}
 use Rattle.machine.proofs.Places.{remaining-end, left}
 use Rattle.machine.proofs.Progress.{Live, move-live}

@@ -20,7 +20,7 @@ use Rattle.machine.specs.State.{State, unissued, start}
 use Rattle.machine.specs.Steps.{nodeAt, sent, landed, forwardOldest, serveOldest, answered, returnOldest, collectOldest}
 use Rattle.machine.specs.Steps.{forwardStep, moduleStep, returnStep, collectStep, step}
 use Rattle.machine.specs.Run.{runEvents}
-use Rattle.machine.specs.Rooms.{WithinRooms}
+use Rattle.machine.specs.Inner.Rooms.{WithinRooms}
 use Rattle.machine.proofs.Arrivals.{Oldest, oldest-is}
 use Rattle.machine.proofs.Moments.{after-events}
 

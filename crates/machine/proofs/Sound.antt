@@ -10,8 +10,8 @@ use Rattle.machine.specs.Setup.{Setup}
 use Rattle.machine.specs.State.{State, start, standsFor}
 use Rattle.machine.specs.Steps.{collectOldest}
 use Rattle.machine.specs.Run.{runEvents, drainRun}
-use Rattle.machine.specs.Sound.{Sound}
-use Rattle.machine.specs.Lawful.{Lawful}
+use Rattle.machine.specs.Inner.Sound.{Sound}
+use Rattle.machine.specs.Inner.Lawful.{Lawful}
 use Rattle.machine.proofs.Moves.{Move, appending, merging, serving, answering, lowering, collecting}
 use Rattle.machine.proofs.Progress.{Live, move-live}
 use Rattle.machine.proofs.Start.{start-live}

@@ -17,7 +17,7 @@ use Rattle.lists.proofs.Stacks.{concat, stack-lowest}
 use Rattle.machine.specs.Setup.{Setup, Message}
 use Rattle.machine.specs.State.{tagsBelow, asked, askedBy, unissued, start}
 use Rattle.machine.specs.Single.{runSingly}
-use Rattle.machine.specs.Lawful.{Lawful}
+use Rattle.machine.specs.Inner.Lawful.{Lawful}
 use Rattle.machine.proofs.Tags.{messageTag}
 use Rattle.machine.proofs.Tree.{treeOf}
 use Rattle.machine.proofs.Invariant.{Invariant, kept, kept-append, kept-none, segment}

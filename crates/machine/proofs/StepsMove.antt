@@ -15,7 +15,7 @@ use Rattle.machine.specs.Arrival.{Node, Arrival, merged, appended, refus
 use Rattle.machine.specs.State.{State}
 use Rattle.machine.specs.Steps.{nodeAt, sent, landed, forwardOldest, serveOldest, ifRoom, answered, returnOldest, collectOldest}
 use Rattle.machine.specs.Steps.{forwardStep, moduleStep, returnStep, collectStep, step}
-use Rattle.machine.specs.Lawful.{Lawful}
+use Rattle.machine.specs.Inner.Lawful.{Lawful}
 use Rattle.machine.proofs.Arrivals.{Arrived, arrive-is, Oldest, oldest-is}
 use Rattle.machine.proofs.Moves.{Move, appending, merging, serving, answering, lowering, collecting}
 

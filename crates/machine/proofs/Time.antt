@@ -18,7 +18,7 @@ use Rattle.machine.specs.State.{State, standsFor}
 use Rattle.machine.specs.Steps.{collectOldest}
 use Rattle.machine.specs.Run.{afterEach}
 use Rattle.machine.specs.Order.{Unissued, InTime}
-use Rattle.machine.specs.Lawful.{Lawful}
+use Rattle.machine.specs.Inner.Lawful.{Lawful}
 use Rattle.machine.proofs.Moves.{Move, appending, merging, serving, answering, lowering, collecting}
 use Rattle.machine.proofs.Progress.{Live}
 use Rattle.machine.proofs.StepsMove.{step-keeps}

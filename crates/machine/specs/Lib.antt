@@ -5,8 +5,6 @@ pub mod State
 pub mod Steps
 pub mod Run
 pub mod Single
-pub mod Lawful
 pub mod Order
-pub mod Sound
-pub mod Rooms
 pub mod Omega
+pub mod Inner

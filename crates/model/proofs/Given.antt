@@ -8,16 +8,17 @@ use lib.ListN.{length}
 use lib.Dec.{leb}
 use borrow.Author.Tests.{leb-true}
 use Rattle.lists.proofs.Tests.{both-true}
-use Rattle.store.specs.Memory.{view}
+use Rattle.store.specs.Inner.Memory.{view}
 use Rattle.trace.specs.Item.{Items}
 use Rattle.trace.specs.Contents.{requestsOf}
-use Rattle.results.specs.Copied.{over, valuesIn, marksIn}
+use Rattle.results.specs.Inner.Copied.{valuesIn, marksIn}
+use Rattle.results.specs.Over.{over}
 use Rattle.run.specs.Results.{Results, resultsOf}
-use Rattle.run.specs.Run.{RanTo}
+use Rattle.run.specs.Inner.Run.{RanTo}
 use Rattle.run.proofs.Results.{resultsIn, results-are}
 use Rattle.model.specs.Result.{Lent, lent, roomFor, memoryAfter}
 use Rattle.model.specs.Promise.{counted}
-use Rattle.model.specs.Give.{countsIn, MayGive, Gives, Leaves}
+use Rattle.model.specs.Inner.Give.{countsIn, MayGive, Gives, Leaves}
 use Rattle.model.specs.declared.Counts.{Counts}
 
 module _ {items : Items} {m memory : List ℕ} (r : RanTo items m memory) where

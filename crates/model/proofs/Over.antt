@@ -8,7 +8,7 @@ use lib.ListN.{length, getD, drop, List·getD-append}
 use lib.Seq.{drop-at}
 use Rattle.lists.specs.Table.{listBelow}
 use Rattle.lists.proofs.Below.{length-below, getD-below}
-use Rattle.results.specs.Copied.{over}
+use Rattle.results.specs.Over.{over}
 use Rattle.run.specs.Results.{valueOf, markOf}
 
 -- what is in front of a list put over another, and what is beyond it

@@ -10,10 +10,10 @@ use lib.ListN.{length}
 use borrow.Author.Tests.{eqb-false, lt-ltb, le-ltb}
 use Rattle.event.specs.Event.{Event, levelFits}
 use Rattle.event.proofs.Steps.{issue-level, forward-level, module-level, return-level, collect-level, step-named, level-most}
-use Rattle.store.specs.Memory.{view}
-use Rattle.shown.specs.Reached.{restsAt, single}
+use Rattle.store.specs.Inner.Memory.{view}
+use Rattle.shown.specs.Inner.Reached.{restsAt, single}
 use Rattle.shown.proofs.Rests.{rests-moves}
-use Rattle.moves.specs.Moves.{wordsIn, Ready, ReadyWith, Moves, MovesWith}
+use Rattle.moves.specs.Inner.Moves.{wordsIn, Ready, ReadyWith, Moves, MovesWith}
 
 -- a length that is not tested zero
 filled : (n : ℕ) → eqb n 0 ≡ false → 0 < n

@@ -10,29 +10,29 @@ use borrow.Author.Tests.{lt-ltb, le-ltb}
 use Rattle.lists.specs.Search.{Found, absent, found}
 use Rattle.lists.specs.Table.{downFrom}
 use Rattle.lists.specs.Count.{same, count}
-use Rattle.lists.specs.Pair.{Pair}
+use Rattle.lists.specs.Inner.Pair.{Pair}
 use Rattle.lists.proofs.Tests.{clash}
 use Rattle.lists.proofs.Below.{length-below, length-down}
 use Rattle.lists.proofs.Tables.{update-same, update-other}
 use Rattle.lists.proofs.Counts.{same-yes, count-append}
 use Rattle.lists.proofs.Maps.{map-append, count-map}
-use Rattle.words.specs.Digits.{byteIn}
+use Rattle.words.specs.Inner.Digits.{byteIn}
 use Rattle.operation.specs.Operation as operations
 use Rattle.operation.specs.declared.Operation.{Operation}
 use Rattle.operation.specs.declared.Merged.the-variants.{One, Never}
-use Rattle.queue.specs.Queue.{tagsOf, pairIn, pairsOf, HeldTags, HeldPairs}
+use Rattle.queue.specs.Inner.Queue.{tagsOf, pairIn, pairsOf, HeldTags, HeldPairs}
 use Rattle.queue.specs.declared.Tags.{Tags}
 use Rattle.queue.specs.declared.Pairs.{Pairs}
 use Rattle.queue.specs.declared.Place.the-variants.{At}
-use Rattle.view.specs.View.{View, withCarried, operationIn}
-use Rattle.store.specs.Layout.{size}
-use Rattle.store.specs.Memory.{view, Becomes}
+use Rattle.view.specs.Inner.View.{View, withCarried, operationIn}
+use Rattle.store.specs.Inner.Layout.{size}
+use Rattle.store.specs.Inner.Memory.{view, Becomes}
 use Rattle.machine.specs.Setup.{Message}
 use Rattle.machine.specs.Arrival as machine
-use Rattle.shown.specs.Network.{Network, setup}
-use Rattle.shown.specs.Shown.{messageOf, recordOf}
+use Rattle.shown.specs.Inner.Network.{Network, setup}
+use Rattle.shown.specs.Inner.Shown.{messageOf, recordOf}
 use Rattle.shown.proofs.Carried.{messages-kept, records-kept}
-use Rattle.node.specs.Node.{HeldNode, nodeIn, ApartAt, youngestTag, foundIn, AppendedTo, ArrivedAt}
+use Rattle.node.specs.Inner.Node.{HeldNode, nodeIn, ApartAt, youngestTag, foundIn, AppendedTo, ArrivedAt}
 use Rattle.node.specs.declared.Node.{Node}
 use Rattle.node.specs.declared.Arrived.{Arrived}
 use Rattle.node.specs.declared.Outcome.the-variants.{Merged, Appended, Refused}

@@ -9,10 +9,10 @@ use store::tags;
 ghost use mathlib.Core.Path.{_≡_};
 ghost use Prim.Native.Nat.{_≤_};
 ghost use lib.ListN.{length};
-ghost use Rattle.queue.specs.Queue.{tagsOf, pairsOf, HeldTags};
-ghost use Rattle.store.specs.Layout.{size};
-ghost use Rattle.store.specs.Memory.{view};
-ghost use Rattle.node.specs.Node.{HeldNode, ApartAt, youngestTag, foundIn, AppendedTo, ArrivedAt};
+ghost use Rattle.queue.specs.Inner.Queue.{tagsOf, pairsOf, HeldTags};
+ghost use Rattle.store.specs.Inner.Layout.{size};
+ghost use Rattle.store.specs.Inner.Memory.{view};
+ghost use Rattle.node.specs.Inner.Node.{HeldNode, ApartAt, youngestTag, foundIn, AppendedTo, ArrivedAt};
 
 pub struct Node {
     pub queue: Tags,

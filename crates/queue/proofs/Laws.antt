@@ -10,10 +10,10 @@ use lib.Dec.{eqb}
 use borrow.Author.Tests.{eq-eqb, ne-eqb}
 use Rattle.lists.specs.Table.{listBelow}
 use Rattle.lists.specs.Search.{firstOf, found}
-use Rattle.lists.specs.Pair.{Pair}
+use Rattle.lists.specs.Inner.Pair.{Pair}
 use Rattle.lists.proofs.Below.{getD-below, below-same, below-without, firstOf-below, firstOf-below-none, getD-down, down-push}
-use Rattle.words.specs.Digits.{byteIn, Pushed, Topped, Without, PlaceOf}
-use Rattle.queue.specs.Queue.{tagsIn, pairIn, pairsIn, noPair, foundAt}
+use Rattle.words.specs.Inner.Digits.{byteIn, Pushed, Topped, Without, PlaceOf}
+use Rattle.queue.specs.Inner.Queue.{tagsIn, pairIn, pairsIn, noPair, foundAt}
 use Rattle.queue.specs.declared.Place.the-variants.{At, Nowhere}
 
 -- ---- tags

@@ -6,9 +6,9 @@ ghost use Prim.Native.Nat.{suc, _<_};
 ghost use lib.ListN.{getD, take, drop};
 ghost use lib.Dec.{eqb};
 ghost use Rattle.lists.specs.Search.{firstOf};
-ghost use Rattle.words.specs.Digits.{byteIn};
-ghost use Rattle.lists.specs.Pair.{Pair};
-ghost use Rattle.queue.specs.Queue.{tagsOf, pairsOf, HeldTags, HeldPairs, foundAt};
+ghost use Rattle.words.specs.Inner.Digits.{byteIn};
+ghost use Rattle.lists.specs.Inner.Pair.{Pair};
+ghost use Rattle.queue.specs.Inner.Queue.{tagsOf, pairsOf, HeldTags, HeldPairs, foundAt};
 
 // A request queue or a reply queue: the youngest tag in the lowest byte.
 pub struct Tags {

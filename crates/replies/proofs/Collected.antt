@@ -6,15 +6,15 @@ use mathlib.Core.List.{List}
 use native.Mathlib.Omega.{arith}
 use lib.ListN.{length, getD, drop}
 use Rattle.lists.proofs.Lists.{first-is}
-use Rattle.view.specs.View.{View, withReplies, withAnswer}
-use Rattle.store.specs.Memory.{view, Becomes}
+use Rattle.view.specs.Inner.View.{View, withReplies, withAnswer}
+use Rattle.store.specs.Inner.Memory.{view, Becomes}
 use Rattle.machine.specs.Order.{replying}
-use Rattle.shown.specs.Reached.{single}
+use Rattle.shown.specs.Inner.Reached.{single}
 use Rattle.shown.proofs.Apart.{other-kind, unanswered, oldest-replying}
 use Rattle.shown.proofs.Reaching.{stands-apart}
 use Rattle.shown.proofs.Collecting.{collect-shows}
 use Rattle.shown.proofs.Events.{collect-moves}
-use Rattle.moves.specs.Moves.{Ready, Moves}
+use Rattle.moves.specs.Inner.Moves.{Ready, Moves}
 
 -- a request whose reply stands in a queue is not answered
 pub collected-open : {m m₁ : List ℕ} → Ready m → (e t : ℕ) → 0 < length (view m .replies 0 e) → t ≡ getD (view m .replies 0 e) 0 0 →

@@ -11,16 +11,16 @@ use lib.Dec.{eqb}
 use borrow.Author.Tests.{eq-eqb, ne-eqb}
 use Rattle.lists.specs.Choice.{choose}
 use Rattle.lists.specs.Table.{listBelow}
+use Rattle.lists.specs.Inner.Pair.{Pair}
 use Rattle.lists.proofs.Below.{below-add}
-use Rattle.words.specs.Digits.{byteIn}
-use Rattle.wiring.specs.Wiring.{positionOn}
-use Rattle.lists.specs.Pair.{Pair}
-use Rattle.view.specs.View.{View, withOrder}
-use Rattle.queue.specs.Queue.{pairIn, pairsIn}
-use Rattle.shown.specs.Shown.{secondsFor, tagsFor}
-use Rattle.store.specs.Layout.{size}
-use Rattle.store.specs.Memory.{view, Becomes}
-use Rattle.replies.specs.Returns.{ExpansionFits, withExpansion, WaitsFit}
+use Rattle.words.specs.Inner.Digits.{byteIn}
+use Rattle.wiring.specs.Inner.Path.{positionOn}
+use Rattle.queue.specs.Inner.Queue.{pairIn, pairsIn}
+use Rattle.view.specs.Inner.View.{View, withOrder}
+use Rattle.store.specs.Inner.Layout.{size}
+use Rattle.store.specs.Inner.Memory.{view, Becomes}
+use Rattle.shown.specs.Inner.Shown.{secondsFor, tagsFor}
+use Rattle.replies.specs.Inner.Returns.{ExpansionFits, withExpansion, WaitsFit}
 
 -- ---- what the second tags of t's records among the first i stand for
 module _ (upTo : ℕ → List ℕ) (t : ℕ) where

@@ -8,7 +8,7 @@ use lib.ListN.{length, getD, take, drop, length-append, length-take, length-drop
 use lib.Dec.{eqb}
 use borrow.Author.Tests.{lt-ltb, le-ltb}
 use Rattle.lists.specs.Search.{Found, firstOf}
-use Rattle.lists.specs.Pair.{Pair}
+use Rattle.lists.specs.Inner.Pair.{Pair}
 use Rattle.lists.proofs.Tests.{by-cases}
 use Rattle.lists.proofs.Tables.{update2-level}
 use Rattle.lists.proofs.Below.{length-below}
@@ -17,21 +17,21 @@ use Rattle.lists.proofs.Lists.{first-is}
 use Rattle.operation.specs.Operation.{applied}
 use Rattle.operation.specs.declared.Operation.{Operation}
 use Rattle.operation.specs.declared.Words.{Words}
-use Rattle.wiring.specs.Wiring.{positionOn}
-use Rattle.queue.specs.Queue.{pairIn, pairsOf, noPair, foundAt}
+use Rattle.wiring.specs.Inner.Path.{positionOn}
+use Rattle.queue.specs.Inner.Queue.{pairIn, pairsOf, noPair, foundAt}
 use Rattle.queue.specs.declared.Pairs.{Pairs}
 use Rattle.queue.specs.declared.Place.{Place}
 use Rattle.queue.specs.declared.Place.the-variants.{At, Nowhere}
-use Rattle.view.specs.View.{View, withReplies, withCarried, withWaits, operationIn, valued, withReply}
-use Rattle.store.specs.Layout.{size}
-use Rattle.store.specs.Memory.{view, Becomes}
-use Rattle.shown.specs.Shown.{oldestPair}
-use Rattle.shown.specs.Reached.{single}
+use Rattle.view.specs.Inner.View.{View, withReplies, withCarried, withWaits, operationIn, valued, withReply}
+use Rattle.store.specs.Inner.Layout.{size}
+use Rattle.store.specs.Inner.Memory.{view, Becomes}
+use Rattle.shown.specs.Inner.Shown.{oldestPair}
+use Rattle.shown.specs.Inner.Reached.{single}
 use Rattle.shown.proofs.Reaching.{stands-sound}
 use Rattle.shown.proofs.Returning.{return-lowers, return-lower-full, return-splits, return-split-full}
 use Rattle.shown.proofs.Events.{return-moves}
-use Rattle.moves.specs.Moves.{Moves}
-use Rattle.replies.specs.Returns.{Lowered, SplitOff}
+use Rattle.moves.specs.Inner.Moves.{Moves}
+use Rattle.replies.specs.Inner.Returns.{Lowered, SplitOff}
 
 -- as many as the machine's buffer has
 pub length-loaded : (waits : Pairs) {l : List Pair} → pairsOf waits ≡ l → waits .len ≡ length l

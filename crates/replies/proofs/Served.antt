@@ -12,17 +12,17 @@ use Rattle.lists.proofs.Tests.{by-cases}
 use Rattle.lists.proofs.Tables.{update-same, update-other}
 use Rattle.lists.proofs.Lists.{first-is}
 use Rattle.operation.specs.Operation.{applied}
-use Rattle.view.specs.View.{withRequests, withCarried, withOrder, withAccess, operationIn, valued, withReply}
-use Rattle.store.specs.Memory.{view, Becomes}
-use Rattle.shown.specs.Network.{Network}
-use Rattle.shown.specs.Shown.{tagsFor}
-use Rattle.shown.specs.Reached.{single, Stands}
+use Rattle.view.specs.Inner.View.{withRequests, withCarried, withOrder, withAccess, operationIn, valued, withReply}
+use Rattle.store.specs.Inner.Memory.{view, Becomes}
+use Rattle.shown.specs.Inner.Network.{Network}
+use Rattle.shown.specs.Inner.Shown.{tagsFor}
+use Rattle.shown.specs.Inner.Reached.{single, Stands}
 use Rattle.shown.proofs.Reaching.{stands-sound, stands-apart}
 use Rattle.shown.proofs.Rely.{request-below, address-few, accesses-few}
 use Rattle.shown.proofs.Expansion.{order-room}
 use Rattle.shown.proofs.ModuleSteps.{module-full, module-shows}
 use Rattle.shown.proofs.Events.{module-moves}
-use Rattle.moves.specs.Moves.{wordsIn, ReadyWith, MovesWith}
+use Rattle.moves.specs.Inner.Moves.{wordsIn, ReadyWith, MovesWith}
 use Rattle.replies.proofs.Shape.{shape-small}
 
 -- "store f(old)"

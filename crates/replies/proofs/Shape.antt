@@ -3,11 +3,11 @@ use Prim.Native.Nat.{ℕ, zero, suc, _≤_, _<_}
 use native.Mathlib.Nat.{le-trans}
 use native.Mathlib.Omega.{arith}
 use lib.ListN.{length}
-use Rattle.view.specs.View.{View}
-use Rattle.shown.specs.Network.{Network}
-use Rattle.shown.specs.Reached.{Stands}
+use Rattle.view.specs.Inner.View.{View}
+use Rattle.shown.specs.Inner.Network.{Network}
+use Rattle.shown.specs.Inner.Reached.{Stands}
 use Rattle.shown.proofs.Rooms.{requests-few, replies-few, waits-few}
-use Rattle.replies.specs.Returns.{WaitsFit}
+use Rattle.replies.specs.Inner.Returns.{WaitsFit}
 
 module _ {x : Network} {v : View} {words : ℕ → ℕ} (S : Stands x v words) where
   pub shape-small : (0 < v .fixed .k) × (v .fixed .k ≤ 4) × (v .fixed .q ≤ 4)

@@ -1,2 +1,2 @@
 -- What becomes of a reply one level down, and what an expansion asks.
-pub mod Returns
+pub mod Inner

@@ -10,13 +10,13 @@ ghost use mathlib.Core.Path.{_≡_};
 ghost use Prim.Native.Nat.{_-_, _≤_, _<_};
 ghost use lib.ListN.{length, getD, set};
 ghost use Rattle.operation.specs.Operation.{applied};
-ghost use Rattle.view.specs.View.{operationIn};
-ghost use Rattle.queue.specs.Queue.{pairsOf, HeldPairs};
-ghost use Rattle.store.specs.Layout.{size};
-ghost use Rattle.store.specs.Memory.{view, Becomes};
-ghost use Rattle.shown.specs.Reached.{single};
-ghost use Rattle.moves.specs.Moves.{Ready, ReadyWith, Moves, MovesWithFor};
-ghost use Rattle.replies.specs.Returns.{atModule, WaitsFit, ExpansionFits, withExpansion, Lowered, SplitOff};
+ghost use Rattle.view.specs.Inner.View.{operationIn};
+ghost use Rattle.queue.specs.Inner.Queue.{pairsOf, HeldPairs};
+ghost use Rattle.store.specs.Inner.Layout.{size};
+ghost use Rattle.store.specs.Inner.Memory.{view, Becomes};
+ghost use Rattle.shown.specs.Inner.Reached.{single};
+ghost use Rattle.moves.specs.Inner.Moves.{Ready, ReadyWith, Moves, MovesWithFor};
+ghost use Rattle.replies.specs.Inner.Returns.{atModule, WaitsFit, ExpansionFits, withExpansion, Lowered, SplitOff};
 
 // "take the oldest message, put (tag, old value) at the end of the reply queue here, store f(old)"
 pub fn module_step(m: &mut Machine, words: &mut [u64; 256], position: usize)

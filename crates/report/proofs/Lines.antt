@@ -6,13 +6,14 @@ use native.Mathlib.Numerals.{add-one}
 use native.Mathlib.Omega.{arith}
 use lib.ListN.{length, getD, drop, replicate, List·getD-append}
 use Rattle.lists.proofs.Below.{length-below}
-use Rattle.digits.specs.Buffer.{Wrote, Printed}
+use Rattle.digits.specs.Inner.Buffer.{Wrote, Printed}
 use Rattle.digits.proofs.Buffer.{wrote-then, wrote-printed}
 use Rattle.text.specs.Text.{lineRoom, replyLine, orderLine, replyLines, orderLines, wordLines, countLines, acceptedText}
 use Rattle.text.proofs.Sections.{Section, replies, orders}
-use Rattle.view.specs.View.{View}
-use Rattle.results.specs.Copied.{over, valueIn, valuesIn, markIn, marksIn}
-use Rattle.report.specs.Lines.{Printable, repliesIn, ordersIn, textIn}
+use Rattle.view.specs.Inner.View.{View}
+use Rattle.results.specs.Inner.Copied.{valueIn, valuesIn, markIn, marksIn}
+use Rattle.results.specs.Over.{over}
+use Rattle.report.specs.Inner.Lines.{Printable, repliesIn, ordersIn, textIn}
 
 -- ---- a section looks only at the places below its count: a list copied over the front of an array gives the same lines as the list itself
 section-same : {lines line lines′ line′ : ℕ → List ℕ} → Section lines line → Section lines′ line′ →

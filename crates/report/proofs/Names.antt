@@ -14,14 +14,14 @@ use Rattle.lists.specs.Table.{listBelow}
 use Rattle.lists.proofs.Tests.{eqb-cases, choose-swap}
 use Rattle.lists.proofs.Searches.{some-more}
 use Rattle.lists.proofs.Below.{below-is}
-use Rattle.store.specs.Memory.{view}
+use Rattle.store.specs.Inner.Memory.{view}
 use Rattle.trace.specs.Item.{Request}
 use Rattle.trace.specs.Contents.{wordsGiven, requestsOf, noRequest, requestAt, given}
-use Rattle.load.specs.Loaded.{Loaded}
 use Rattle.trace.specs.declared.Answer.{Answer}
+use Rattle.load.specs.Inner.Loaded.{Loaded}
+use Rattle.run.specs.Inner.Run.{itemsIn}
 use Rattle.report.specs.Report.{asksFor, named}
-use Rattle.run.specs.Run.{itemsIn}
-use Rattle.report.specs.Names.{asksBelow, Marked}
+use Rattle.report.specs.Inner.Names.{asksBelow, Marked}
 
 -- ---- the addresses of the requests
 module _ (rs : List Request) (address : ℕ → ℕ) (same : (t : ℕ) → t < length rs → address t ≡ requestAt rs t .address) (a : ℕ) where

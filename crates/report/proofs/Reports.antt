@@ -8,29 +8,29 @@ use lib.ListN.{length}
 use borrow.Author.Tests.{le-leb, lt-leb}
 use Rattle.lists.specs.Table.{listBelow}
 use Rattle.lists.proofs.Below.{length-below}
-use Rattle.digits.specs.Buffer.{Printed}
+use Rattle.digits.specs.Inner.Buffer.{Printed}
 use Rattle.digits.proofs.Buffer.{printed-within, printed-text}
 use Rattle.text.specs.Text.{acceptedText, refusedText}
-use Rattle.view.specs.View.{View}
-use Rattle.store.specs.Memory.{view}
-use Rattle.results.specs.Copied.{valueIn, valuesIn, marksIn}
+use Rattle.view.specs.Inner.View.{View}
+use Rattle.store.specs.Inner.Memory.{view}
 use Rattle.trace.specs.Bytes.{AreBytes}
 use Rattle.trace.specs.Item.{Items}
 use Rattle.trace.specs.Contents.{requestsOf}
 use Rattle.trace.specs.Answers.{numberOf}
-use Rattle.load.specs.Loaded.{Loaded}
 use Rattle.trace.specs.declared.Fault.{Fault}
 use Rattle.trace.specs.declared.Facts.{Facts}
 use Rattle.trace.specs.declared.Answer.{Answer}
 use Rattle.trace.specs.declared.Answer.the-variants.{Refused}
-use Rattle.load.proofs.Refused.{Closed, loaded-refused}
 use Rattle.trace.proofs.Ranges.{accepted-in-range}
+use Rattle.load.specs.Inner.Loaded.{Loaded}
+use Rattle.load.proofs.Refused.{Closed, loaded-refused}
+use Rattle.results.specs.Inner.Copied.{valueIn, valuesIn, marksIn}
 use Rattle.run.specs.Results.{Results, resultsOf}
-use Rattle.report.specs.Report.{named, textOf, reported, report}
-use Rattle.run.specs.Run.{itemsIn, Loading, RanTo}
+use Rattle.run.specs.Inner.Run.{itemsIn, Loading, RanTo}
 use Rattle.run.proofs.Results.{resultsIn, results-are}
-use Rattle.report.specs.Names.{Marked}
-use Rattle.report.specs.Lines.{Printable, textIn}
+use Rattle.report.specs.Report.{named, textOf, reported, report}
+use Rattle.report.specs.Inner.Names.{Marked}
+use Rattle.report.specs.Inner.Lines.{Printable, textIn}
 use Rattle.report.specs.Written.{reportRoom, Reported}
 use Rattle.report.proofs.Names.{trace-named}
 

@@ -1,4 +1,4 @@
+-- The definitions of this crate.
 pub mod Report
 pub mod Written
-pub mod Names
-pub mod Lines
+pub mod Inner

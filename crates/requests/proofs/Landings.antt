@@ -8,24 +8,24 @@ use native.Mathlib.Omega.{arith}
 use lib.ListN.{length}
 use Rattle.lists.specs.Count.{count}
 use Rattle.lists.specs.Table.{update2}
+use Rattle.lists.specs.Inner.Pair.{Pair}
 use Rattle.lists.proofs.Tables.{update2-same, update2-idle}
 use Rattle.lists.proofs.Below.{length-below, length-down}
-use Rattle.words.specs.Digits.{byteIn}
+use Rattle.words.specs.Inner.Digits.{byteIn}
 use Rattle.operation.specs.declared.Words.{Words}
+use Rattle.queue.specs.Inner.Queue.{tagsOf, pairIn, pairsOf}
+use Rattle.view.specs.Inner.View.{View, filled, carrying, withRequests, withWaits, withMerge}
+use Rattle.store.specs.Inner.Memory.{view, Becomes}
 use Rattle.machine.specs.Arrival.{arrive}
-use Rattle.lists.specs.Pair.{Pair}
-use Rattle.view.specs.View.{View, filled, carrying, withRequests, withWaits, withMerge}
-use Rattle.shown.specs.Network.{Network, setup}
-use Rattle.shown.specs.Shown.{messageOf}
-use Rattle.shown.specs.Landing.{Came, cameMerged, cameAppended, cameRefused, nodeOf, arrivalOf, mergesAfter, withNode, Landed}
-use Rattle.queue.specs.Queue.{tagsOf, pairIn, pairsOf}
-use Rattle.store.specs.Memory.{view, Becomes}
-use Rattle.node.specs.Node.{ApartAt, cameOf, ArrivedAt}
+use Rattle.shown.specs.Inner.Network.{Network, setup}
+use Rattle.shown.specs.Inner.Shown.{messageOf}
+use Rattle.shown.specs.Inner.Landing.{Came, cameMerged, cameAppended, cameRefused, nodeOf, arrivalOf, mergesAfter, withNode, Landed}
+use Rattle.node.specs.Inner.Node.{ApartAt, cameOf, ArrivedAt}
 use Rattle.node.specs.declared.Node.{Node}
 use Rattle.node.specs.declared.Arrived.{Arrived}
 use Rattle.node.specs.declared.Outcome.{Outcome}
 use Rattle.node.specs.declared.Outcome.the-variants.{Merged, Appended, Refused}
-use Rattle.moves.specs.Moves.{Went}
+use Rattle.moves.specs.Inner.Moves.{Went}
 
 -- ---- outcomes differ
 abbrev mark : Came → ℕ

@@ -14,24 +14,24 @@ use Rattle.lists.proofs.Lists.{first-is}
 use Rattle.lists.proofs.Tables.{update2-other}
 use Rattle.lists.proofs.Tests.{test-clash, both-true}
 use Rattle.event.specs.Event.{Event}
-use Rattle.wiring.specs.Wiring.{positionOn}
-use Rattle.view.specs.View.{Fixed, View, withRequests}
-use Rattle.store.specs.Memory.{view, Becomes}
+use Rattle.wiring.specs.Inner.Path.{positionOn}
+use Rattle.view.specs.Inner.View.{Fixed, View, withRequests}
+use Rattle.store.specs.Inner.Memory.{view, Becomes}
 use Rattle.machine.specs.State.{State}
 use Rattle.machine.specs.Steps.{forwardStep}
 use Rattle.machine.specs.Run.{runEvents}
-use Rattle.shown.specs.Network.{Network, setup}
-use Rattle.shown.specs.Shown.{tagsAt, shown}
-use Rattle.shown.specs.Landing.{Came, cameMerged, cameAppended, cameRefused, Landed}
-use Rattle.shown.specs.Reached.{single, Stands}
+use Rattle.shown.specs.Inner.Network.{Network, setup}
+use Rattle.shown.specs.Inner.Shown.{tagsAt, shown}
+use Rattle.shown.specs.Inner.Landing.{Came, cameMerged, cameAppended, cameRefused, Landed}
+use Rattle.shown.specs.Inner.Reached.{single, Stands}
 use Rattle.shown.proofs.Rely.{merges-few}
 use Rattle.shown.proofs.Reaching.{stands-sound}
 use Rattle.shown.proofs.Rooms.{requests-few, waits-few}
 use Rattle.shown.proofs.Events.{issue-is, forward-is}
 use Rattle.shown.proofs.Forwards.{oldest-first, landed-fixed, landed-rounds, forward-apart, forward-full, forward-stays, forward-shows}
 use Rattle.shown.proofs.Issues.{issue-shows}
-use Rattle.node.specs.Node.{ApartAt}
-use Rattle.moves.specs.Moves.{Ready, Moves, wentOn, Went}
+use Rattle.node.specs.Inner.Node.{ApartAt}
+use Rattle.moves.specs.Inner.Moves.{Ready, Moves, wentOn, Went}
 
 both-at-most : (a b c d : ℕ) → both (leb a b) (leb c d) ≡ true → (a ≤ b) × (c ≤ d)
 both-at-most a b c d e = let h = both-true (leb a b) (leb c d) e in (leb-true a b (h .0), leb-true c d (h .1))

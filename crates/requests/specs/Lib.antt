@@ -1,2 +1,2 @@
 -- What an arrival in code asks, and what is told before it.
-pub mod Arrivals
+pub mod Inner

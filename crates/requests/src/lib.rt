@@ -8,11 +8,11 @@ use store::tags;
 ghost use mathlib.Core.Path.{_≡_};
 ghost use Prim.Native.Nat.{_<_};
 ghost use lib.ListN.{length};
-ghost use Rattle.requests.specs.Arrivals.{isFull, MayArrive};
-ghost use Rattle.store.specs.Layout.{size};
-ghost use Rattle.store.specs.Memory.{view};
-ghost use Rattle.shown.specs.Reached.{single};
-ghost use Rattle.moves.specs.Moves.{Ready, Moves, Went};
+ghost use Rattle.requests.specs.Inner.Arrivals.{isFull, MayArrive};
+ghost use Rattle.store.specs.Inner.Layout.{size};
+ghost use Rattle.store.specs.Inner.Memory.{view};
+ghost use Rattle.shown.specs.Inner.Reached.{single};
+ghost use Rattle.moves.specs.Inner.Moves.{Ready, Moves, Went};
 
 // "engine e's next unissued request, in trace order, arrives at level 1 on its path"
 pub fn issue(m: &mut Machine, e: usize)

@@ -1,2 +1,3 @@
 -- What a run leaves in lent memory.
-pub mod Copied
+pub mod Over
+pub mod Inner

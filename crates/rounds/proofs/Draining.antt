@@ -4,17 +4,17 @@ use mathlib.Core.Path.{_≡_, refl, sym, ap, subst, _∙_}
 use mathlib.Core.Bool.{Bool, true, false}
 use mathlib.Core.List.{List}
 use native.Mathlib.Omega.{arith}
+use Rattle.view.specs.Inner.View.{View, withRound}
+use Rattle.store.specs.Inner.Memory.{view, Becomes, Same}
 use Rattle.machine.specs.Run.{round, drainRun}
 use Rattle.machine.proofs.Rounds.{round-fits}
-use Rattle.view.specs.View.{View, withRound}
-use Rattle.shown.specs.Network.{Network, setup}
-use Rattle.shown.specs.Reached.{Stands, Moved, shownRun}
+use Rattle.shown.specs.Inner.Network.{Network, setup}
+use Rattle.shown.specs.Inner.Reached.{Stands, Moved, shownRun}
 use Rattle.shown.proofs.Answered.{all-answered, not-all-answered}
 use Rattle.shown.proofs.Drains.{drain-spent, drain-stops, round-drains, round-stands, rounds-few}
 use Rattle.shown.proofs.Reaching.{stands-sound}
-use Rattle.store.specs.Memory.{view, Becomes, Same}
-use Rattle.moves.specs.Moves.{wordsIn, ReadyWith, MovesWith}
-use Rattle.rounds.specs.Drains.{Drained, AllAnswered}
+use Rattle.moves.specs.Inner.Moves.{wordsIn, ReadyWith, MovesWith}
+use Rattle.rounds.specs.Inner.Drains.{Drained, AllAnswered}
 use Rattle.rounds.proofs.Whole.{with-stand}
 
 -- ---- "every request is answered"

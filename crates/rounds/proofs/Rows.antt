@@ -12,24 +12,24 @@ use lib.ListN.{length}
 use Rattle.lists.specs.Choice.{choose}
 use Rattle.lists.proofs.Tests.{by-cases, test-cases}
 use Rattle.lists.proofs.Lists.{length-some}
-use Rattle.words.specs.Digits.{lengthIn, FirstBusy, Above}
+use Rattle.words.specs.Inner.Digits.{lengthIn, FirstBusy, Above}
 use Rattle.words.proofs.Digits.{digit-none}
 use Rattle.event.specs.Event.{Event, levelFits}
 use Rattle.event.proofs.Steps.{modules-fit, module-level}
 use Rattle.wiring.proofs.Shifts.{width-small}
-use Rattle.view.specs.View.{Fixed, View}
-use Rattle.store.specs.Layout.{size}
-use Rattle.store.specs.Memory.{view, RowOf}
+use Rattle.view.specs.Inner.View.{Fixed, View}
+use Rattle.store.specs.Inner.Layout.{size}
+use Rattle.store.specs.Inner.Memory.{view, RowOf}
 use Rattle.machine.specs.Run.{row}
-use Rattle.shown.specs.Network.{Network}
-use Rattle.shown.specs.Reached.{Stands, Moved, single, restsAt}
+use Rattle.shown.specs.Inner.Network.{Network}
+use Rattle.shown.specs.Inner.Reached.{Stands, Moved, single, restsAt}
 use Rattle.shown.proofs.Levels.{row-named}
 use Rattle.shown.proofs.Reaching.{moved-stands}
 use Rattle.shown.proofs.Below.{busy-below}
 use Rattle.shown.proofs.Moving.{row-none, row-onward}
 use Rattle.shown.proofs.Rests.{row-skip}
 use Rattle.shown.proofs.Others.{Alike, row-others}
-use Rattle.moves.specs.Moves.{wordsIn, Ready, ReadyWith, Moves, MovesWith}
+use Rattle.moves.specs.Inner.Moves.{wordsIn, Ready, ReadyWith, Moves, MovesWith}
 
 -- ---- the queues that a kind of step takes from
 abbrev pub queuesOf : ℕ → View → ℕ → ℕ → List ℕ

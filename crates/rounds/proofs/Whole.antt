@@ -6,15 +6,15 @@ use native.Mathlib.Omega.{arith}
 use lib.ListN.{length}
 use Rattle.event.specs.Event.{Event}
 use Rattle.event.proofs.Steps.{issues-fit, forwards-fit, modules-fit, returns-fit, collects-fit}
-use Rattle.view.specs.View.{Fixed}
-use Rattle.store.specs.Memory.{view}
+use Rattle.view.specs.Inner.View.{Fixed}
+use Rattle.store.specs.Inner.Memory.{view}
 use Rattle.machine.specs.Run.{row, rowsUp, rowsDown, round}
-use Rattle.shown.specs.Network.{Network}
-use Rattle.shown.specs.Reached.{Stands, Moved}
+use Rattle.shown.specs.Inner.Network.{Network}
+use Rattle.shown.specs.Inner.Reached.{Stands, Moved}
 use Rattle.shown.proofs.Levels.{AllFit, row-named, up-named, down-named}
 use Rattle.shown.proofs.Reaching.{moved-stands}
 use Rattle.shown.proofs.Moving.{moved-none, moved-append, up-none, up-onward, down-none, down-onward}
-use Rattle.moves.specs.Moves.{wordsIn, Ready, ReadyWith, Moves, MovesWith}
+use Rattle.moves.specs.Inner.Moves.{wordsIn, Ready, ReadyWith, Moves, MovesWith}
 use Rattle.rounds.proofs.Rows.{levels-within}
 
 -- ---- a machine that is ready stays ready

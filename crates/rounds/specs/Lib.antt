@@ -1,2 +1,2 @@
 -- What a drain leaves, and when every request is answered.
-pub mod Drains
+pub mod Inner

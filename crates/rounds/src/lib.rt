@@ -7,9 +7,9 @@ use store::queues;
 use store::shape;
 ghost use Prim.Native.Nat.{_-_, _≤_, _<_, _^_};
 ghost use Rattle.machine.specs.Run.{row, rowsUp, rowsDown, round as roundEvents};
-ghost use Rattle.store.specs.Memory.{view};
-ghost use Rattle.moves.specs.Moves.{Ready, ReadyWith, MovesFor, MovesWithFor};
-ghost use Rattle.rounds.specs.Drains.{Drained, AllAnswered};
+ghost use Rattle.store.specs.Inner.Memory.{view};
+ghost use Rattle.moves.specs.Inner.Moves.{Ready, ReadyWith, MovesFor, MovesWithFor};
+ghost use Rattle.rounds.specs.Inner.Drains.{Drained, AllAnswered};
 
 // "A drain stops when every request is answered or its allowance is spent."
 pub fn drain(m: &mut Machine, words: &mut [u64; 256], allowed: u64)

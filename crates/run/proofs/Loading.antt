@@ -4,12 +4,12 @@ use mathlib.Core.Path.{_≡_, refl, sym, _∙_, ap}
 use mathlib.Core.List.{List}
 use Rattle.lists.proofs.Tests.{clash}
 use Rattle.trace.specs.Check.{Verdict, refused, accepted, itemsOf, check}
-use Rattle.trace.specs.Answers.{factsOf, acceptance, answered, tells}
+use Rattle.trace.specs.Inner.Told.{factsOf, acceptance, answered, tells}
 use Rattle.trace.specs.declared.Facts.{Facts}
 use Rattle.trace.specs.declared.Answer.{Answer}
 use Rattle.trace.specs.declared.Answer.the-variants.{Accepted}
-use Rattle.load.specs.Loaded.{Loaded}
-use Rattle.run.specs.Run.{Loading}
+use Rattle.load.specs.Inner.Loaded.{Loaded}
+use Rattle.run.specs.Inner.Run.{Loading}
 
 told-accepted : (v : Verdict) (facts : Facts) → acceptance facts ≡ answered v → (v ≡ accepted (itemsOf v)) × (facts ≡ factsOf (itemsOf v))
 told-accepted (refused n before) facts e = clash (cc)

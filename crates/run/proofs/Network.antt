@@ -10,13 +10,13 @@ use Rattle.lists.proofs.Tests.{both-true}
 use Rattle.event.specs.Event.{Act, namesStep, levelFits}
 use Rattle.trace.specs.Item.{Request, Items}
 use Rattle.trace.specs.Contents.{shapeOf, requestsOf, requestAt, actsOf}
-use Rattle.trace.specs.Ranges.{RequestIn, ActIn, InRange}
+use Rattle.trace.specs.Inner.Ranges.{RequestIn, ActIn, InRange}
 use Rattle.machine.specs.Order.{Named}
-use Rattle.machine.specs.Lawful.{Lawful}
-use Rattle.shown.specs.Network.{Ranges}
+use Rattle.machine.specs.Inner.Lawful.{Lawful}
+use Rattle.shown.specs.Inner.Network.{Ranges}
 use Rattle.shown.proofs.Reaching.{ranges-lawful}
 use Rattle.run.specs.Results.{setupOf}
-use Rattle.run.specs.Run.{networkOf}
+use Rattle.run.specs.Inner.Run.{networkOf}
 
 engines-below : (k : ℕ) (rs : List Request) → All (RequestIn k) rs → (t : ℕ) → requestAt rs t .engine < 2 ^ k
 engines-below k [] h t = pow-pos k

@@ -8,18 +8,18 @@ use lib.ListN.{length}
 use Rattle.lists.specs.Choice.{choose}
 use Rattle.lists.specs.Table.{listBelow}
 use Rattle.lists.proofs.Below.{below-is, below-same}
-use Rattle.machine.specs.Run.{Ran}
-use Rattle.view.specs.View.{View}
-use Rattle.shown.specs.Network.{Network, setup}
-use Rattle.shown.specs.Shown.{answerOf, shown}
-use Rattle.shown.specs.Reached.{shownRun}
-use Rattle.store.specs.Memory.{view}
-use Rattle.moves.specs.Moves.{wordsIn}
+use Rattle.view.specs.Inner.View.{View}
+use Rattle.store.specs.Inner.Memory.{view}
 use Rattle.trace.specs.Item.{Items}
 use Rattle.trace.specs.Contents.{requestsOf}
-use Rattle.results.specs.Copied.{valuesIn, marksIn}
+use Rattle.machine.specs.Run.{Ran}
+use Rattle.results.specs.Inner.Copied.{valuesIn, marksIn}
+use Rattle.shown.specs.Inner.Network.{Network, setup}
+use Rattle.shown.specs.Inner.Shown.{answerOf, shown}
+use Rattle.shown.specs.Inner.Reached.{shownRun}
+use Rattle.moves.specs.Inner.Moves.{wordsIn}
 use Rattle.run.specs.Results.{valueOf, markOf, Results, resultsOf}
-use Rattle.run.specs.Run.{networkOf, RanTo}
+use Rattle.run.specs.Inner.Run.{networkOf, RanTo}
 
 -- ---- what a run gives, and what a view and words give
 abbrev givenBy : (x : Network) → Ran (setup x) → Results

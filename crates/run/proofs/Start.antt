@@ -6,30 +6,30 @@ use native.Mathlib.Omega.{arith}
 use lib.ListN.{length, getD, set, replicate, length-set, length-replicate}
 use Rattle.lists.specs.Search.{All}
 use Rattle.operation.specs.declared.Words.{Words}
-use Rattle.machine.specs.Run.{runActs}
-use Rattle.machine.specs.Order.{atStart}
-use Rattle.machine.specs.Sound.{Sound}
-use Rattle.view.specs.View.{View, operationIn}
-use Rattle.shown.specs.Network.{Network, setup}
-use Rattle.shown.specs.Shown.{shown}
-use Rattle.shown.specs.Reached.{Stands, shownRun, AtStart}
-use Rattle.shown.proofs.Start.{start-shows}
-use Rattle.shown.proofs.Reaching.{start-stands, stands-sound}
-use Rattle.store.specs.Memory.{view}
-use Rattle.moves.specs.Moves.{wordsIn}
-use Rattle.start.specs.Linked.{Empty, HasRequests, RequestsLoaded, Started}
+use Rattle.view.specs.Inner.View.{View, operationIn}
+use Rattle.store.specs.Inner.Memory.{view}
 use Rattle.trace.specs.Bytes.{AreBytes}
 use Rattle.trace.specs.Item.{Word, Items}
 use Rattle.trace.specs.Contents.{shapeOf, wordsGiven, requestsOf, actsOf, putWords, startWords}
-use Rattle.load.specs.Machine.{tagsAlone, RequestsHeld}
-use Rattle.trace.specs.Ranges.{ActIn, InRange}
-use Rattle.trace.specs.Acts.{Left}
+use Rattle.trace.specs.Inner.Ranges.{ActIn, InRange}
+use Rattle.trace.specs.Inner.Acts.{Left}
 use Rattle.trace.specs.declared.Facts.{Facts}
 use Rattle.trace.proofs.Accept.{accepted-is}
 use Rattle.trace.proofs.Ranges.{accepted-in-range}
 use Rattle.trace.proofs.ActsLeft.{left-start}
+use Rattle.machine.specs.Run.{runActs}
+use Rattle.machine.specs.Order.{atStart}
+use Rattle.machine.specs.Inner.Sound.{Sound}
+use Rattle.load.specs.Inner.Machine.{tagsAlone, RequestsHeld}
+use Rattle.shown.specs.Inner.Network.{Network, setup}
+use Rattle.shown.specs.Inner.Shown.{shown}
+use Rattle.shown.specs.Inner.Reached.{Stands, shownRun, AtStart}
+use Rattle.shown.proofs.Start.{start-shows}
+use Rattle.shown.proofs.Reaching.{start-stands, stands-sound}
+use Rattle.start.specs.Inner.Linked.{Empty, HasRequests, RequestsLoaded, Started}
+use Rattle.moves.specs.Inner.Moves.{wordsIn}
 use Rattle.run.specs.Results.{wordsAtStart, ranOf}
-use Rattle.run.specs.Run.{itemsIn, networkOf, Loading, ActsReady, ActsRun, RanTo}
+use Rattle.run.specs.Inner.Run.{itemsIn, networkOf, Loading, ActsReady, ActsRun, RanTo}
 use Rattle.run.proofs.Network.{network-ranges}
 
 -- ---- the machine with the requests alone

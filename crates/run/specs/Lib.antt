@@ -1,2 +1,3 @@
+-- The definitions of this crate.
 pub mod Results
-pub mod Run
+pub mod Inner

@@ -5,12 +5,12 @@ use mathlib.Core.Option.{Option, none, some}
 use lib.ListN.{length, getD}
 use Rattle.lists.specs.Table.{listBelow}
 use Rattle.operation.specs.Operation.{operationOf}
+use Rattle.trace.specs.Item.{Items}
+use Rattle.trace.specs.Contents.{shapeOf, wordsGiven, requestsOf, requestAt, actsOf, startWords}
 use Rattle.machine.specs.Setup.{Setup}
 use Rattle.machine.specs.Run.{Ran, runActs}
 use Rattle.machine.specs.Order.{atStart}
 use Rattle.machine.specs.Omega.{omegaNetwork}
-use Rattle.trace.specs.Item.{Items}
-use Rattle.trace.specs.Contents.{shapeOf, wordsGiven, requestsOf, requestAt, actsOf, startWords}
 
 -- ---- the defined run
 -- document 01's network with a trace's shape and requests

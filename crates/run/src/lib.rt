@@ -3,7 +3,7 @@ use store::Machine;
 use trace::Facts;
 use trace::acts;
 use trace::acts::Due;
-ghost use Rattle.run.specs.Run.{itemsIn, Loading, ActsReady, ActsRun, RanTo};
+ghost use Rattle.run.specs.Inner.Run.{itemsIn, Loading, ActsReady, ActsRun, RanTo};
 
 // From the start to the end of the trace.
 pub fn from_start(trace: &[u8], facts: Facts, m: &mut Machine, words: &mut [u64; 256])

@@ -9,12 +9,12 @@ use lib.Dec.{ltb}
 use borrow.Author.Tests.{lt-ltb, le-ltb}
 use Rattle.lists.specs.Choice.{choose}
 use Rattle.lists.proofs.Tests.{by-cases, test-fails}
-use Rattle.view.specs.View.{View}
+use Rattle.view.specs.Inner.View.{View}
 use Rattle.machine.specs.Run.{isAnswered, answeredBelow, allAnswered}
 use Rattle.machine.specs.Order.{OnePlace}
 use Rattle.machine.proofs.Drain.{below-answered}
-use Rattle.shown.specs.Network.{Network, setup, Fits}
-use Rattle.shown.specs.Shown.{shown}
+use Rattle.shown.specs.Inner.Network.{Network, setup, Fits}
+use Rattle.shown.specs.Inner.Shown.{shown}
 use Rattle.shown.proofs.Apart.{tags-apart, answered-below}
 
 module _ (x : Network) (v : View) (words : ℕ → ℕ) where

@@ -11,17 +11,17 @@ use native.Mathlib.Omega.{arith}
 use Rattle.lists.specs.Choice.{choose}
 use Rattle.lists.specs.Search.{All, found}
 use Rattle.lists.specs.Count.{count}
-use Rattle.lists.specs.Pair.{Pair}
+use Rattle.lists.specs.Inner.Pair.{Pair}
 use Rattle.lists.proofs.Tests.{by-cases}
 use Rattle.lists.proofs.Maps.{count-map}
 use Rattle.lists.proofs.Counts.{counted-all, oldest-counted, found-counted}
-use Rattle.view.specs.View.{View}
+use Rattle.view.specs.Inner.View.{View}
 use Rattle.machine.specs.Setup.{Setup}
 use Rattle.machine.specs.State.{State}
 use Rattle.machine.specs.Run.{isAnswered}
 use Rattle.machine.specs.Order.{Where, requested, waiting, replying, answered, times, OnPath, OnePlace}
-use Rattle.shown.specs.Network.{Network, setup}
-use Rattle.shown.specs.Shown.{tagsAt, shown, oldestPair}
+use Rattle.shown.specs.Inner.Network.{Network, setup}
+use Rattle.shown.specs.Inner.Shown.{tagsAt, shown, oldestPair}
 
 -- ---- two places are the same or not
 two : {A : Type 0} (f : ℕ → ℕ → A) (l p l′ p′ : ℕ) → (f l p ≡ f l′ p′ → (l ≡ l′) × (p ≡ p′)) → Dec (f l p ≡ f l′ p′)

@@ -11,8 +11,8 @@ use Rattle.machine.specs.Setup.{Setup, Message, place}
 use Rattle.machine.specs.State.{State}
 use Rattle.machine.specs.Arrival.{Node, refused, append, combine, meet, youngest, arrive}
 use Rattle.machine.specs.Steps.{sent, landed, nodeAt, forwardOldest, forwardStep}
-use Rattle.shown.specs.Network.{Network, setup}
-use Rattle.shown.specs.Landing.{Came, cameMerged, cameAppended, cameRefused, arrivalOf, mergesAfter}
+use Rattle.shown.specs.Inner.Network.{Network, setup}
+use Rattle.shown.specs.Inner.Landing.{Came, cameMerged, cameAppended, cameRefused, arrivalOf, mergesAfter}
 
 -- "Otherwise append if the queue has room. Otherwise the step changes nothing.": with no room at all an arrival is refused
 pub arrive-full : (S : Setup) (n : Node S) (m : Message S) → S .Q ≤ length (n .queue) → S .W ≤ length (n .waiting) → arrive S n m ≡ refused

@@ -6,11 +6,11 @@ use mathlib.Core.List.{List, [], _∷_}
 use native.Mathlib.Omega.{arith}
 use lib.ListN.{length}
 use Rattle.lists.specs.Choice.{choose}
-use Rattle.view.specs.View.{View}
+use Rattle.view.specs.Inner.View.{View}
 use Rattle.machine.specs.Setup.{place}
 use Rattle.machine.specs.Order.{requested, replying}
-use Rattle.shown.specs.Network.{Network, setup}
-use Rattle.shown.specs.Reached.{Stands}
+use Rattle.shown.specs.Inner.Network.{Network, setup}
+use Rattle.shown.specs.Inner.Reached.{Stands}
 use Rattle.shown.proofs.Apart.{oldest-requested, oldest-replying}
 use Rattle.shown.proofs.Reaching.{stands-lawful, stands-apart}
 use Rattle.shown.proofs.Forwards.{oldest-first}

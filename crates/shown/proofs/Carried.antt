@@ -9,18 +9,18 @@ use native.Mathlib.Omega.{arith}
 use Rattle.lists.specs.Choice.{choose}
 use Rattle.lists.specs.Table.{update2}
 use Rattle.lists.specs.Count.{count}
-use Rattle.lists.specs.Pair.{Pair}
+use Rattle.lists.specs.Inner.Pair.{Pair}
 use Rattle.lists.proofs.Tests.{clash}
 use Rattle.lists.proofs.Every.{all-map}
 use Rattle.lists.proofs.Tables.{update-same, update-other, update2-same, update2-other, update2-unique, update2-map}
 use Rattle.lists.proofs.Maps.{map-same, map-append}
 use Rattle.lists.proofs.Counts.{counted-all}
 use Rattle.operation.specs.declared.Words.{Words}
-use Rattle.view.specs.View.{View, withCarried, withRequests}
+use Rattle.view.specs.Inner.View.{View, withCarried, withRequests}
 use Rattle.machine.specs.Setup.{Setup, Message, WaitRecord, Reply}
 use Rattle.machine.specs.State.{State}
-use Rattle.shown.specs.Network.{Network, setup}
-use Rattle.shown.specs.Shown.{unissued, messageOf, recordOf, replyOf, answerOf, tagsAt}
+use Rattle.shown.specs.Inner.Network.{Network, setup}
+use Rattle.shown.specs.Inner.Shown.{unissued, messageOf, recordOf, replyOf, answerOf, tagsAt}
 
 -- states with the same parts are the same
 pub state-eq : {S : Setup} (a b : State S) → a .requests ≡ b .requests → a .waits ≡ b .waits → a .replies ≡ b .replies → a .words ≡ b .words →

@@ -9,10 +9,10 @@ use native.Mathlib.Decide.{ℕ-discrete}
 use Rattle.lists.specs.Table.{update}
 use Rattle.lists.proofs.Tests.{by-cases}
 use Rattle.lists.proofs.Tables.{update-same, update-other}
-use Rattle.view.specs.View.{View, withReplies, withAnswer}
+use Rattle.view.specs.Inner.View.{View, withReplies, withAnswer}
 use Rattle.machine.specs.Steps.{collectOldest, collectStep}
-use Rattle.shown.specs.Network.{Network, setup}
-use Rattle.shown.specs.Shown.{answerOf, shown}
+use Rattle.shown.specs.Inner.Network.{Network, setup}
+use Rattle.shown.specs.Inner.Shown.{answerOf, shown}
 use Rattle.shown.proofs.Carried.{state-eq, replies-updated}
 
 module _ (x : Network) (v : View) (words : ℕ → ℕ) where

@@ -7,15 +7,15 @@ use native.Mathlib.Omega.{arith}
 use Rattle.lists.specs.Search.{All}
 use Rattle.lists.proofs.Tests.{test-cases}
 use Rattle.event.specs.Event.{Act}
-use Rattle.view.specs.View.{View, withRound}
+use Rattle.view.specs.Inner.View.{View, withRound}
 use Rattle.machine.specs.Setup.{Setup}
 use Rattle.machine.specs.Run.{Ran, runEvents, round, drainRun, allAnswered, runActs}
 use Rattle.machine.specs.Order.{Named}
 use Rattle.machine.proofs.Sound.{drain-from}
 use Rattle.machine.proofs.Rest.{drain-rests, reached-rests}
-use Rattle.shown.specs.Network.{Network, setup}
-use Rattle.shown.specs.Shown.{shown}
-use Rattle.shown.specs.Reached.{Stands, shownRun, Moved}
+use Rattle.shown.specs.Inner.Network.{Network, setup}
+use Rattle.shown.specs.Inner.Shown.{shown}
+use Rattle.shown.specs.Inner.Reached.{Stands, shownRun, Moved}
 use Rattle.shown.proofs.Reaching.{moves-few, stands-lawful}
 
 -- a run after one round more

@@ -10,8 +10,8 @@ use Rattle.lists.specs.Choice.{choose}
 use Rattle.lists.specs.Search.{All, nil, cons, only}
 use Rattle.lists.proofs.Tests.{test-cases, ltb-cases}
 use Rattle.lists.proofs.Every.{all-map}
-use Rattle.shown.specs.Network.{Network, tagsFrom, ofEngine, firstFrom, nextOf}
-use Rattle.shown.specs.Shown.{unissued}
+use Rattle.shown.specs.Inner.Network.{Network, tagsFrom, ofEngine, firstFrom, nextOf}
+use Rattle.shown.specs.Inner.Shown.{unissued}
 
 pub tags-within : (n t : ℕ) → All (λ u. (t ≤ u) × (u < t + n)) (tagsFrom n t)
 unfolding tagsFrom

@@ -1,14 +1,14 @@
 -- One event: its what picks the step, so a view that shows that step's state is one that the event has moved.
 use Prim.Native.Nat.{ℕ, _-_}
 use mathlib.Core.Path.{_≡_, sym, _∙_}
-use Rattle.view.specs.View.{View}
+use Rattle.view.specs.Inner.View.{View}
 use Rattle.machine.specs.Setup.{Setup}
 use Rattle.machine.specs.State.{State}
 use Rattle.machine.specs.Steps.{step, issueStep, forwardStep, moduleStep, returnStep, collectStep}
 use Rattle.machine.specs.Run.{runEvents}
-use Rattle.shown.specs.Network.{Network, setup}
-use Rattle.shown.specs.Shown.{shown}
-use Rattle.shown.specs.Reached.{single, Moved}
+use Rattle.shown.specs.Inner.Network.{Network, setup}
+use Rattle.shown.specs.Inner.Shown.{shown}
+use Rattle.shown.specs.Inner.Reached.{single, Moved}
 
 -- ---- the step of an event
 module _ (S : Setup) (what level position : ℕ) (st : State S) where

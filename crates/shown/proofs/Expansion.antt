@@ -8,16 +8,16 @@ use lib.ListN.{length}
 use lib.Dec.{eqb}
 use Rattle.lists.specs.Choice.{choose}
 use Rattle.lists.specs.Search.{All, nil, cons, only}
-use Rattle.lists.specs.Pair.{Pair}
+use Rattle.lists.specs.Inner.Pair.{Pair}
 use Rattle.lists.proofs.Every.{all-map}
-use Rattle.view.specs.View.{View}
+use Rattle.view.specs.Inner.View.{View}
 use Rattle.machine.specs.Setup.{WaitRecord, place}
 use Rattle.machine.specs.Arrival.{recordsOf}
 use Rattle.machine.specs.State.{standsFor, seconds}
 use Rattle.machine.specs.Order.{requested}
-use Rattle.machine.specs.Sound.{Sound}
-use Rattle.shown.specs.Network.{Network, setup, Fits}
-use Rattle.shown.specs.Shown.{messageOf, recordOf, shown, secondsFor, tagsFor}
+use Rattle.machine.specs.Inner.Sound.{Sound}
+use Rattle.shown.specs.Inner.Network.{Network, setup, Fits}
+use Rattle.shown.specs.Inner.Shown.{messageOf, recordOf, shown, secondsFor, tagsFor}
 use Rattle.shown.proofs.Apart.{Apart, tags-apart, waits-below, oldest-requested}
 use Rattle.shown.proofs.Carried.{tags-above}
 

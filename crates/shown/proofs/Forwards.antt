@@ -8,21 +8,21 @@ use native.Mathlib.Omega.{arith}
 use lib.ListN.{length, length-map}
 use Rattle.lists.specs.Table.{update2}
 use Rattle.lists.specs.Count.{same, count, Distinct}
-use Rattle.lists.specs.Pair.{Pair}
+use Rattle.lists.specs.Inner.Pair.{Pair}
 use Rattle.lists.proofs.Tests.{by-cases}
 use Rattle.lists.proofs.Tables.{update2-same, update2-other, update2-unique, update2-two}
 use Rattle.lists.proofs.Counts.{same-yes, same-no, count-append}
 use Rattle.lists.proofs.Maps.{count-map}
-use Rattle.wiring.specs.Wiring.{positionOn}
-use Rattle.view.specs.View.{View, withRequests}
+use Rattle.wiring.specs.Inner.Path.{positionOn}
+use Rattle.view.specs.Inner.View.{View, withRequests}
 use Rattle.machine.specs.Setup.{place}
 use Rattle.machine.specs.Arrival.{arrive}
 use Rattle.machine.specs.Order.{Where, requested, waiting, replying, answered}
 use Rattle.machine.specs.Steps.{sent, nodeAt, forwardStep}
-use Rattle.shown.specs.Network.{Network, setup, ofEngine}
-use Rattle.shown.specs.Shown.{unissued, messageOf, recordOf, replyOf, answerOf, tagsAt, shown}
-use Rattle.shown.specs.Landing.{Came, cameRefused, nodeOf, arrivalOf, mergesAfter, withNode, Landed}
-use Rattle.shown.specs.Reached.{Stands}
+use Rattle.shown.specs.Inner.Network.{Network, setup, ofEngine}
+use Rattle.shown.specs.Inner.Shown.{unissued, messageOf, recordOf, replyOf, answerOf, tagsAt, shown}
+use Rattle.shown.specs.Inner.Landing.{Came, cameRefused, nodeOf, arrivalOf, mergesAfter, withNode, Landed}
+use Rattle.shown.specs.Inner.Reached.{Stands}
 use Rattle.shown.proofs.Apart.{tagTimes, other-kind, request-elsewhere, oldest-requested}
 use Rattle.shown.proofs.Carried.{messagesIn, recordsIn, repliesIn}
 use Rattle.shown.proofs.Carried.{state-eq, messages-same, records-same, replies-same, answers-same, tagsIn, tags-updated}

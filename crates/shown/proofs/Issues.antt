@@ -5,14 +5,14 @@ use mathlib.Core.Logic.{_≢_}
 use mathlib.Core.List.{List, [], _∷_}
 use lib.Dec.{ltb}
 use Rattle.lists.specs.Choice.{choose}
-use Rattle.wiring.specs.Wiring.{positionOn}
-use Rattle.view.specs.View.{View, withRequests}
+use Rattle.wiring.specs.Inner.Path.{positionOn}
+use Rattle.view.specs.Inner.View.{View, withRequests}
 use Rattle.machine.specs.Order.{requested}
 use Rattle.machine.specs.Steps.{issueStep}
-use Rattle.shown.specs.Network.{Network, setup, ofEngine}
-use Rattle.shown.specs.Shown.{unissued, tagsAt, shown}
-use Rattle.shown.specs.Landing.{Came, cameRefused, Landed}
-use Rattle.shown.specs.Reached.{Stands}
+use Rattle.shown.specs.Inner.Network.{Network, setup, ofEngine}
+use Rattle.shown.specs.Inner.Shown.{unissued, tagsAt, shown}
+use Rattle.shown.specs.Inner.Landing.{Came, cameRefused, Landed}
+use Rattle.shown.specs.Inner.Reached.{Stands}
 use Rattle.shown.proofs.Apart.{oldest-requested}
 use Rattle.shown.proofs.Engines.{next-unissued}
 use Rattle.shown.proofs.Reaching.{stands-lawful, stands-apart}

@@ -11,13 +11,13 @@ use Rattle.lists.proofs.Tables.{update2-ind}
 use Rattle.lists.proofs.Counts.{same-yes}
 use Rattle.operation.specs.Operation.{applied}
 use Rattle.operation.specs.declared.Words.{Words}
-use Rattle.view.specs.View.{View, withRequests, withReplies, withCarried, withOrder, withAccess, operationIn, valued}
+use Rattle.view.specs.Inner.View.{View, withRequests, withReplies, withCarried, withOrder, withAccess, operationIn, valued}
 use Rattle.machine.specs.Setup.{Message}
 use Rattle.machine.specs.Steps.{serveOldest, moduleStep}
 use Rattle.machine.specs.Order.{requested, waiting, replying}
-use Rattle.machine.specs.Sound.{Sound}
-use Rattle.shown.specs.Network.{Network, setup, Fits}
-use Rattle.shown.specs.Shown.{messageOf, replyOf, tagsAt, tagsFor, shown}
+use Rattle.machine.specs.Inner.Sound.{Sound}
+use Rattle.shown.specs.Inner.Network.{Network, setup, Fits}
+use Rattle.shown.specs.Inner.Shown.{messageOf, replyOf, tagsAt, tagsFor, shown}
 use Rattle.shown.proofs.Apart.{Apart, tagTimes, tags-apart, other-kind, request-elsewhere, oldest-requested, unanswered}
 use Rattle.shown.proofs.Carried.{state-eq, tags-above, tags-replaced, messages-framed, messages-updated, records-framed, answers-kept, replies-pushed}
 use Rattle.shown.proofs.Expansion.{stands-tags}

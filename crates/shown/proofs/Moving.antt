@@ -5,12 +5,12 @@ use mathlib.Core.List.{List, [], _∷_, _++_}
 use native.Mathlib.Numerals.{add-one}
 use native.Mathlib.Omega.{arith}
 use Rattle.event.specs.Event.{Event}
-use Rattle.view.specs.View.{View}
+use Rattle.view.specs.Inner.View.{View}
 use Rattle.machine.specs.Run.{runEvents, row, rowsUp, rowsDown}
 use Rattle.machine.proofs.Moments.{events-append}
-use Rattle.shown.specs.Network.{Network, setup}
-use Rattle.shown.specs.Shown.{shown}
-use Rattle.shown.specs.Reached.{Moved}
+use Rattle.shown.specs.Inner.Network.{Network, setup}
+use Rattle.shown.specs.Inner.Shown.{shown}
+use Rattle.shown.specs.Inner.Reached.{Moved}
 
 module _ {x : Network} where
   pub moved-none : {v : View} {words : ℕ → ℕ} → Moved x [] v words v words

@@ -13,16 +13,16 @@ use Rattle.lists.proofs.Tables.{update2-level, update2-position}
 use Rattle.lists.proofs.Maps.{map-none}
 use Rattle.event.specs.Event.{levelFits}
 use Rattle.event.proofs.Steps.{issue-level, module-level, return-level, collect-level, step-named}
-use Rattle.view.specs.View.{View}
+use Rattle.view.specs.Inner.View.{View}
 use Rattle.machine.specs.Setup.{Setup, Message, WaitRecord, Reply, place}
 use Rattle.machine.specs.State.{State}
 use Rattle.machine.specs.Arrival.{Arrival, merged, appended, refused, arrive, oldestOf}
 use Rattle.machine.specs.Steps.{landed, nodeAt, forwardOldest, forwardStep, taken, serveOldest, moduleStep, answered, split, lowered}
 use Rattle.machine.specs.Steps.{returnOldest, returnStep, collectOldest, collectStep}
 use Rattle.machine.specs.Run.{runEvents}
-use Rattle.shown.specs.Network.{Network, setup}
-use Rattle.shown.specs.Shown.{messageOf, replyOf, unissued, tagsAt, shown}
-use Rattle.shown.specs.Reached.{single, Moved}
+use Rattle.shown.specs.Inner.Network.{Network, setup}
+use Rattle.shown.specs.Inner.Shown.{messageOf, replyOf, unissued, tagsAt, shown}
+use Rattle.shown.specs.Inner.Reached.{single, Moved}
 use Rattle.shown.proofs.Events.{issue-is, forward-is, module-is, return-is, collect-is}
 
 -- ---- the machine's steps at another position of the row

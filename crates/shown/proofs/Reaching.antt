@@ -7,17 +7,17 @@ use native.Mathlib.Omega.{arith}
 use Rattle.lists.specs.Search.{nil}
 use Rattle.lists.proofs.Every.{all-append}
 use Rattle.event.specs.Event.{Event}
-use Rattle.view.specs.View.{View}
+use Rattle.view.specs.Inner.View.{View}
 use Rattle.machine.specs.State.{State, start}
 use Rattle.machine.specs.Run.{runEvents}
-use Rattle.machine.specs.Lawful.{Lawful}
-use Rattle.machine.specs.Sound.{Sound}
+use Rattle.machine.specs.Inner.Lawful.{Lawful}
+use Rattle.machine.specs.Inner.Sound.{Sound}
 use Rattle.machine.proofs.Omega.{omega-lawful}
 use Rattle.machine.proofs.Moments.{events-append}
 use Rattle.machine.proofs.Sound.{sound}
-use Rattle.shown.specs.Network.{Network, setup, Ranges, Fits}
-use Rattle.shown.specs.Shown.{shown}
-use Rattle.shown.specs.Reached.{Reached, Stands, Moved, AtStart}
+use Rattle.shown.specs.Inner.Network.{Network, setup, Ranges, Fits}
+use Rattle.shown.specs.Inner.Shown.{shown}
+use Rattle.shown.specs.Inner.Reached.{Reached, Stands, Moved, AtStart}
 use Rattle.shown.proofs.Apart.{Apart, tags-apart}
 use Rattle.shown.proofs.Levels.{AllFit}
 use Rattle.shown.proofs.Start.{start-shows}

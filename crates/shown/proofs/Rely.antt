@@ -5,11 +5,11 @@ use mathlib.Core.Path.{_≡_, ap}
 use mathlib.Core.List.{List, _∷_}
 use native.Mathlib.Nat.{le-trans, mul-le-mul-left}
 use native.Mathlib.Omega.{arith}
-use Rattle.view.specs.View.{View}
+use Rattle.view.specs.Inner.View.{View}
 use Rattle.machine.specs.Order.{requested}
-use Rattle.machine.specs.Sound.{Sound}
-use Rattle.shown.specs.Network.{Network, setup, Fits}
-use Rattle.shown.specs.Shown.{unissued, shown}
+use Rattle.machine.specs.Inner.Sound.{Sound}
+use Rattle.shown.specs.Inner.Network.{Network, setup, Fits}
+use Rattle.shown.specs.Inner.Shown.{unissued, shown}
 use Rattle.shown.proofs.Apart.{Apart, oldest-requested}
 
 module _ (x : Network) (v : View) (A : Apart x v) where

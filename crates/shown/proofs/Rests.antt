@@ -9,14 +9,14 @@ use borrow.Author.Tests.{eqb-true}
 use Rattle.lists.proofs.Lists.{length-none}
 use Rattle.event.specs.Event.{levelFits}
 use Rattle.event.proofs.Steps.{issue-level, module-level, return-level, collect-level, step-named}
-use Rattle.view.specs.View.{View}
+use Rattle.view.specs.Inner.View.{View}
 use Rattle.machine.specs.Setup.{Setup}
 use Rattle.machine.specs.State.{State}
 use Rattle.machine.specs.Steps.{forwardOldest, forwardStep, serveOldest, moduleStep, returnOldest, returnStep, collectOldest, collectStep}
 use Rattle.machine.specs.Run.{row}
-use Rattle.shown.specs.Network.{Network, setup}
-use Rattle.shown.specs.Shown.{messageOf, replyOf, tagsAt, shown}
-use Rattle.shown.specs.Reached.{single, restsAt, Moved}
+use Rattle.shown.specs.Inner.Network.{Network, setup}
+use Rattle.shown.specs.Inner.Shown.{messageOf, replyOf, tagsAt, shown}
+use Rattle.shown.specs.Inner.Reached.{single, restsAt, Moved}
 use Rattle.shown.proofs.Events.{issue-moves, forward-moves, module-moves, return-moves, collect-moves}
 use Rattle.shown.proofs.Moving.{row-onward}
 

@@ -10,22 +10,22 @@ use borrow.Author.Tests.{lt-ltb, le-ltb}
 use Rattle.lists.specs.Count.{count}
 use Rattle.lists.specs.Search.{absent, found}
 use Rattle.lists.specs.Table.{update2}
-use Rattle.lists.specs.Pair.{Pair}
+use Rattle.lists.specs.Inner.Pair.{Pair}
 use Rattle.lists.proofs.Tables.{update2-ind}
 use Rattle.lists.proofs.Counts.{same-yes, count-append}
 use Rattle.lists.proofs.Searches.{First, firstOf-is}
 use Rattle.lists.proofs.Maps.{foundMap, firstOf-map, map-append}
 use Rattle.operation.specs.Operation.{applied}
 use Rattle.operation.specs.declared.Words.{Words}
-use Rattle.wiring.specs.Wiring.{positionOn}
-use Rattle.view.specs.View.{View, withReplies, withWaits, withCarried, operationIn, valued}
+use Rattle.wiring.specs.Inner.Path.{positionOn}
+use Rattle.view.specs.Inner.View.{View, withReplies, withWaits, withCarried, operationIn, valued}
 use Rattle.machine.specs.Setup.{WaitRecord, Reply, place}
 use Rattle.machine.specs.Arrival.{oldestOf}
 use Rattle.machine.specs.Steps.{answered, returnOldest, returnStep}
 use Rattle.machine.specs.Order.{Where, requested, waiting, replying}
-use Rattle.machine.specs.Sound.{Sound}
-use Rattle.shown.specs.Network.{Network, setup, Fits}
-use Rattle.shown.specs.Shown.{recordOf, replyOf, tagsAt, shown, oldestPair}
+use Rattle.machine.specs.Inner.Sound.{Sound}
+use Rattle.shown.specs.Inner.Network.{Network, setup, Fits}
+use Rattle.shown.specs.Inner.Shown.{recordOf, replyOf, tagsAt, shown, oldestPair}
 use Rattle.shown.proofs.Apart.{Apart, tagTimes, tags-apart, other-kind, wait-elsewhere, oldest-replying, pair-waiting, unanswered}
 use Rattle.shown.proofs.Carried.{state-eq, messages-framed, records-framed, records-updated, replies-updated, answers-kept, replies-pushed}
 

@@ -2,12 +2,12 @@
 use Prim.Native.Nat.{ℕ, suc, _≤_}
 use native.Mathlib.Nat.{le-trans}
 use lib.ListN.{length, length-map}
-use Rattle.view.specs.View.{View}
-use Rattle.machine.specs.Rooms.{WithinRooms}
+use Rattle.view.specs.Inner.View.{View}
+use Rattle.machine.specs.Inner.Rooms.{WithinRooms}
 use Rattle.machine.proofs.Rooms.{rooms}
-use Rattle.shown.specs.Network.{Network, setup}
-use Rattle.shown.specs.Shown.{messageOf, recordOf, replyOf, shown}
-use Rattle.shown.specs.Reached.{Stands}
+use Rattle.shown.specs.Inner.Network.{Network, setup}
+use Rattle.shown.specs.Inner.Shown.{messageOf, recordOf, replyOf, shown}
+use Rattle.shown.specs.Inner.Reached.{Stands}
 
 module _ {x : Network} {v : View} {words : ℕ → ℕ} (S : Stands x v words) where
   pub stands-rooms : WithinRooms (setup x) (shown x v words)

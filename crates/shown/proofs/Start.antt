@@ -8,13 +8,13 @@ use Rattle.lists.specs.Choice.{choose}
 use Rattle.lists.specs.Search.{All, nil, cons, only}
 use Rattle.lists.proofs.Tests.{test-cases}
 use Rattle.lists.proofs.Every.{all-map}
-use Rattle.view.specs.View.{View}
+use Rattle.view.specs.Inner.View.{View}
 use Rattle.machine.specs.Setup.{Message}
 use Rattle.machine.specs.State.{start, tagsBelow, asked, askedBy}
 use Rattle.machine.specs.State as machine
-use Rattle.shown.specs.Network.{Network, setup, tagsFrom}
-use Rattle.shown.specs.Shown.{unissued, messageOf, recordOf, replyOf, tagsAt, answerOf, shown}
-use Rattle.shown.specs.Reached.{AtStart}
+use Rattle.shown.specs.Inner.Network.{Network, setup, tagsFrom}
+use Rattle.shown.specs.Inner.Shown.{unissued, messageOf, recordOf, replyOf, tagsAt, answerOf, shown}
+use Rattle.shown.specs.Inner.Reached.{AtStart}
 use Rattle.shown.proofs.Engines.{tags-within, next-unissued}
 
 module _ (x : Network) where

@@ -1,5 +1,2 @@
 -- The state that a view stands for, where an arrival lands, and the states that a run reaches.
-pub mod Network
-pub mod Shown
-pub mod Landing
-pub mod Reached
+pub mod Inner

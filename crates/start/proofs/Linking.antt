@@ -12,15 +12,16 @@ use borrow.Author.Tests.{eqb-false, eq-eqb, ne-eqb, le-ltb}
 use Rattle.lists.specs.Choice.{choose}
 use Rattle.lists.proofs.Tests.{by-cases, ltb-cases}
 use Rattle.lists.proofs.Tables.{update-same, update-other, update2-same, update2-level, update2-position}
-use Rattle.wiring.specs.Wiring.{positionOn, moduleOf}
+use Rattle.wiring.specs.Wiring.{moduleOf}
+use Rattle.wiring.specs.Inner.Path.{positionOn}
 use Rattle.wiring.proofs.Laws.{position-engine, module-below}
-use Rattle.view.specs.View.{View, withFixed, withRequests, shaped, linked}
-use Rattle.shown.specs.Network.{Network, nextOf, firstFrom}
-use Rattle.shown.specs.Reached.{AtStart}
+use Rattle.view.specs.Inner.View.{View, withFixed, withRequests, shaped, linked}
+use Rattle.store.specs.Inner.Layout.{size}
+use Rattle.store.specs.Inner.Memory.{view, Becomes}
+use Rattle.shown.specs.Inner.Network.{Network, nextOf, firstFrom}
+use Rattle.shown.specs.Inner.Reached.{AtStart}
 use Rattle.shown.proofs.Engines.{next-within}
-use Rattle.store.specs.Layout.{size}
-use Rattle.store.specs.Memory.{view, Becomes}
-use Rattle.start.specs.Linked.{Empty, HasRequests, RequestsLoaded, Started, LinkedTo, firstIn, withLinked}
+use Rattle.start.specs.Inner.Linked.{Empty, HasRequests, RequestsLoaded, Started, LinkedTo, firstIn, withLinked}
 
 -- the requests from t on are linked, and each engine has its first of them
 pub record Linked (x : Network) (v : View) (t : ℕ) : Type 0 where

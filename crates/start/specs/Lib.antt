@@ -1,2 +1,2 @@
 -- The machine before the first event, made from the requests in it.
-pub mod Linked
+pub mod Inner

@@ -6,9 +6,9 @@ use store::tags;
 ghost use mathlib.Core.Path.{_≡_};
 ghost use Prim.Native.Nat.{_≤_, _<_};
 ghost use lib.ListN.{length};
-ghost use Rattle.store.specs.Layout.{size};
-ghost use Rattle.store.specs.Memory.{view};
-ghost use Rattle.start.specs.Linked.{RequestsLoaded, Started, LinkedTo, firstIn};
+ghost use Rattle.store.specs.Inner.Layout.{size};
+ghost use Rattle.store.specs.Inner.Memory.{view};
+ghost use Rattle.start.specs.Inner.Linked.{RequestsLoaded, Started, LinkedTo, firstIn};
 
 // From the requests that a trace has put into the machine.
 pub fn start(m: &mut Machine, k: u64, q: u64, w: u64, count: usize)

@@ -17,11 +17,11 @@ use Rattle.lists.specs.Table.{update, listBelow}
 use Rattle.lists.proofs.Tests.{by-cases, ltb-cases}
 use Rattle.lists.proofs.Tables.{update-same, update-other}
 use Rattle.lists.proofs.Below.{length-below, getD-below, below-same}
-use Rattle.words.specs.Digits.{digit, byteIn, bitIn, Topped}
+use Rattle.words.specs.Inner.Digits.{digit, byteIn, bitIn, Topped}
 use Rattle.words.proofs.Digits.{digit-lt, digits-same}
-use Rattle.view.specs.View.{withAnswer, withOrder}
-use Rattle.store.specs.Layout.{size, atEvery, atAnswered, atOrdered, atOrder}
-use Rattle.store.specs.Memory.{marksAt, bytesAt, fixedIn, orderIn, view, Becomes, Same, SameMarks}
+use Rattle.view.specs.Inner.View.{withAnswer, withOrder}
+use Rattle.store.specs.Inner.Layout.{size, atEvery, atAnswered, atOrdered, atOrder}
+use Rattle.store.specs.Inner.Memory.{marksAt, bytesAt, fixedIn, orderIn, view, Becomes, Same, SameMarks}
 use Rattle.store.proofs.Columns.{tags-changed}
 use Rattle.store.proofs.Regions.{becomes}
 

@@ -9,14 +9,14 @@ use lib.Dec.{eqb}
 use lib.ListN.{getD, replicate, length-replicate, getD-replicate, List·getD-eq-default}
 use Rattle.lists.specs.Table.{listBelow}
 use Rattle.lists.proofs.Tests.{by-cases}
-use Rattle.words.specs.Digits.{bitIn}
+use Rattle.words.specs.Inner.Digits.{bitIn}
 use Rattle.words.proofs.Digits.{digit-none}
-use Rattle.view.specs.View.{blank}
-use Rattle.store.specs.Layout.{size, atK, atQ, atW, atCount, atEvery, atAnswered, atOrdered, atAccesses, atMerges, atRounds}
-use Rattle.store.specs.Layout.{atRequestLengths, atReplyLengths, atWaitLengths}
-use Rattle.store.specs.Layout.{atOrder, atRequests, atReplies, atFirsts, atSeconds, atHeads, atFirstOperands, atSecondOperands}
-use Rattle.store.specs.Memory.{columnAt, marksAt, requestsAt, buffersAt, codeOf, addressOf, pathOf, afterOf, fixedIn, carriedIn}
-use Rattle.store.specs.Memory.{orderIn, bytesAt, view, Becomes}
+use Rattle.view.specs.Inner.View.{blank}
+use Rattle.store.specs.Inner.Layout.{size, atK, atQ, atW, atCount, atEvery, atAnswered, atOrdered, atAccesses, atMerges, atRounds}
+use Rattle.store.specs.Inner.Layout.{atRequestLengths, atReplyLengths, atWaitLengths}
+use Rattle.store.specs.Inner.Layout.{atOrder, atRequests, atReplies, atFirsts, atSeconds, atHeads, atFirstOperands, atSecondOperands}
+use Rattle.store.specs.Inner.Memory.{columnAt, marksAt, requestsAt, buffersAt, codeOf, addressOf, pathOf, afterOf, fixedIn, carriedIn}
+use Rattle.store.specs.Inner.Memory.{orderIn, bytesAt, view, Becomes}
 use Rattle.store.proofs.Grid.{grid-empty}
 use Rattle.store.proofs.Columns.{tags-none}
 use Rattle.store.proofs.Held.{Reading, heldAt, requests-held, Told, tags-told, requests-told}

@@ -9,7 +9,7 @@ use Rattle.lists.specs.Choice.{choose, both}
 use Rattle.lists.specs.Table.{update2}
 use Rattle.lists.proofs.Tests.{ltb-cases}
 use Rattle.lists.proofs.Tables.{update2-unique}
-use Rattle.store.specs.Memory.{onGrid}
+use Rattle.store.specs.Inner.Memory.{onGrid}
 
 -- what holds on the grid, and of nothing, holds everywhere
 grid-cases : (P : Bool → Type 0) (s p : ℕ) → (s < 5 → p < 16 → P true) → P false → P (both (ltb s 5) (ltb p 16))

@@ -2,7 +2,7 @@
 use Prim.Native.Nat.{ℕ, _+_, _*_, _/_, _%_, _^_, _≤_, _<_}
 use mathlib.Core.Path.{_≡_}
 use native.Mathlib.Omega.{arith}
-use Rattle.store.specs.Memory.{codeOf, addressOf, pathOf, afterOf}
+use Rattle.store.specs.Inner.Memory.{codeOf, addressOf, pathOf, afterOf}
 
 pub record Head (h code address path after : ℕ) : Type 0 where
   pub codeIs : codeOf h ≡ code

@@ -10,10 +10,10 @@ use Rattle.lists.specs.Choice.{choose}
 use Rattle.lists.specs.Table.{downFrom}
 use Rattle.lists.proofs.Tests.{test-cases, eqb-cases, choose-no}
 use Rattle.lists.proofs.Below.{length-down}
-use Rattle.words.specs.Digits.{byteIn}
-use Rattle.queue.specs.Queue.{tagsIn}
-use Rattle.store.specs.Layout.{atRequestLengths, atRequests}
-use Rattle.store.specs.Memory.{gridAt, lengthsAt, onGrid, nextAt, requestsAt}
+use Rattle.words.specs.Inner.Digits.{byteIn}
+use Rattle.queue.specs.Inner.Queue.{tagsIn}
+use Rattle.store.specs.Inner.Layout.{atRequestLengths, atRequests}
+use Rattle.store.specs.Inner.Memory.{gridAt, lengthsAt, onGrid, nextAt, requestsAt}
 use Rattle.store.proofs.Grid.{grid-same}
 
 -- by level, word and length

@@ -15,13 +15,13 @@ use Rattle.lists.specs.Table.{update, update2}
 use Rattle.lists.proofs.Tests.{by-cases, choose-yes, choose-no}
 use Rattle.lists.proofs.Tables.{update-same, update-other, update-idle}
 use Rattle.lists.proofs.Below.{length-below, length-down, down-push, down-less}
-use Rattle.words.specs.Digits.{lengthIn, byteIn, Pushed}
+use Rattle.words.specs.Inner.Digits.{lengthIn, byteIn, Pushed}
 use Rattle.words.proofs.Digits.{digit-low}
 use Rattle.queue.specs.declared.Tags.{Tags}
-use Rattle.queue.specs.Queue.{tagsIn, pairsIn, tagsOf}
-use Rattle.view.specs.View.{withRequests, withReplies, withWaits, withReply}
-use Rattle.store.specs.Layout.{size, atCount, atRequestLengths, atReplyLengths, atWaitLengths, atRequests, atReplies, atFirsts, atSeconds}
-use Rattle.store.specs.Memory.{gridAt, lengthsAt, requestsAt, buffersAt, fixedIn, view, Becomes, RowOf}
+use Rattle.queue.specs.Inner.Queue.{tagsIn, pairsIn, tagsOf}
+use Rattle.view.specs.Inner.View.{withRequests, withReplies, withWaits, withReply}
+use Rattle.store.specs.Inner.Layout.{size, atCount, atRequestLengths, atReplyLengths, atWaitLengths, atRequests, atReplies, atFirsts, atSeconds}
+use Rattle.store.specs.Inner.Memory.{gridAt, lengthsAt, requestsAt, buffersAt, fixedIn, view, Becomes, RowOf}
 use Rattle.store.proofs.Grid.{grid-here, grid-changed}
 use Rattle.store.proofs.Held.{Reading, asTags, alone, asRequests, heldAt, requests-held, requests-above, Told, tags-told}
 use Rattle.store.proofs.Held.{alone-first, requests-none, requests-told}

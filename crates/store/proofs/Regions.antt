@@ -10,12 +10,12 @@ use lib.ListN.{length, getD}
 use Rattle.lists.specs.Choice.{choose, both}
 use Rattle.lists.specs.Table.{listBelow}
 use Rattle.lists.proofs.Tests.{test-cases, both-true}
-use Rattle.view.specs.View.{View}
-use Rattle.store.specs.Layout.{size, atK, atQ, atW, atCount, atEvery, atAnswered, atOrdered, atAccesses, atMerges, atRounds}
-use Rattle.store.specs.Layout.{atRequestLengths, atReplyLengths, atWaitLengths}
-use Rattle.store.specs.Layout.{atOrder, atRequests, atReplies, atFirsts, atSeconds, atHeads, atFirstOperands, atSecondOperands}
-use Rattle.store.specs.Memory.{wordAt, columnAt, marksAt, bytesAt, queuesAt, requestsAt, buffersAt, codeOf, addressOf, pathOf}
-use Rattle.store.specs.Memory.{afterOf, fixedIn, carriedIn, orderIn, view, Becomes}
+use Rattle.view.specs.Inner.View.{View}
+use Rattle.store.specs.Inner.Layout.{size, atK, atQ, atW, atCount, atEvery, atAnswered, atOrdered, atAccesses, atMerges, atRounds}
+use Rattle.store.specs.Inner.Layout.{atRequestLengths, atReplyLengths, atWaitLengths}
+use Rattle.store.specs.Inner.Layout.{atOrder, atRequests, atReplies, atFirsts, atSeconds, atHeads, atFirstOperands, atSecondOperands}
+use Rattle.store.specs.Inner.Memory.{wordAt, columnAt, marksAt, bytesAt, queuesAt, requestsAt, buffersAt, codeOf, addressOf, pathOf}
+use Rattle.store.specs.Inner.Memory.{afterOf, fixedIn, carriedIn, orderIn, view, Becomes}
 use Rattle.store.proofs.Grid.{grid-same}
 use Rattle.store.proofs.Columns.{tags-same}
 use Rattle.store.proofs.Held.{Reading, asTags, asRequests, heldAt, requests-held}

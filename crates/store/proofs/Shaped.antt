@@ -12,10 +12,10 @@ use lib.ListN.{length, getD, set, drop, length-set}
 use lib.Seq.{sets, sets-eq, length-sets, getD-append-add, getD-drop, getD-set-same, getD-set-other}
 use Rattle.lists.specs.Choice.{choose}
 use Rattle.lists.proofs.Tests.{by-cases, ltb-cases}
-use Rattle.words.specs.Digits.{bitIn, LowBits}
-use Rattle.view.specs.View.{withFixed, withAccess, withMerge, withRound, shaped}
-use Rattle.store.specs.Layout.{size, atK, atQ, atW, atCount, atEvery, atAccesses, atMerges, atRounds, atHeads}
-use Rattle.store.specs.Memory.{marksAt, addressOf, pathOf, afterOf, fixedIn, view, Becomes}
+use Rattle.words.specs.Inner.Digits.{bitIn, LowBits}
+use Rattle.view.specs.Inner.View.{withFixed, withAccess, withMerge, withRound, shaped}
+use Rattle.store.specs.Inner.Layout.{size, atK, atQ, atW, atCount, atEvery, atAccesses, atMerges, atRounds, atHeads}
+use Rattle.store.specs.Inner.Memory.{marksAt, addressOf, pathOf, afterOf, fixedIn, view, Becomes}
 use Rattle.store.proofs.Regions.{Kept, column-same, becomes}
 
 -- ---- a count of a run

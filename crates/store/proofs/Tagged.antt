@@ -13,9 +13,9 @@ use Rattle.operation.specs.declared.Operation.{Operation}
 use Rattle.operation.specs.declared.Words.{Words}
 use Rattle.operation.specs.Operation.{wordsOf}
 use Rattle.operation.proofs.Laws.{code-byte}
-use Rattle.view.specs.View.{valued, Fixed, withFixed, withCarried, withRequest, linked}
-use Rattle.store.specs.Layout.{size, atK, atQ, atW, atCount, atEvery, atHeads, atFirstOperands, atSecondOperands}
-use Rattle.store.specs.Memory.{columnAt, codeOf, addressOf, pathOf, afterOf, fixedIn, carriedIn, view, Becomes}
+use Rattle.view.specs.Inner.View.{valued, Fixed, withFixed, withCarried, withRequest, linked}
+use Rattle.store.specs.Inner.Layout.{size, atK, atQ, atW, atCount, atEvery, atHeads, atFirstOperands, atSecondOperands}
+use Rattle.store.specs.Inner.Memory.{columnAt, codeOf, addressOf, pathOf, afterOf, fixedIn, carriedIn, view, Becomes}
 use Rattle.store.proofs.Columns.{tags-changed}
 use Rattle.store.proofs.Regions.{Kept, marks-same, becomes}
 use Rattle.store.proofs.Heads.{Head, head-new, head-linked, head-coded}

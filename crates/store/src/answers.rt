@@ -9,9 +9,9 @@ ghost use mathlib.Core.Bool.{false};
 ghost use mathlib.Core.List.{[], _∷_};
 ghost use Prim.Native.Nat.{_<_};
 ghost use lib.ListN.{length, getD};
-ghost use Rattle.view.specs.View.{withAnswer, withOrder};
-ghost use Rattle.store.specs.Layout.{size};
-ghost use Rattle.store.specs.Memory.{view, Becomes, Same, SameMarks};
+ghost use Rattle.view.specs.Inner.View.{withAnswer, withOrder};
+ghost use Rattle.store.specs.Inner.Layout.{size};
+ghost use Rattle.store.specs.Inner.Memory.{view, Becomes, Same, SameMarks};
 
 pub fn is_answered(m: &Machine, t: usize) -> bool
     requires { ⌜ t < 256 ⌝ }

@@ -16,10 +16,10 @@ ghost use Prim.Native.Nat.{suc, _≤_, _<_};
 ghost use lib.Dec.{eqb, ltb};
 ghost use lib.ListN.{length, getD, drop};
 ghost use Rattle.lists.specs.Choice.{choose};
-ghost use Rattle.view.specs.View.{withRequests, withReplies, withReply, withWaits};
-ghost use Rattle.queue.specs.Queue.{tagsOf, pairsOf, HeldTags, HeldPairs};
-ghost use Rattle.store.specs.Layout.{size};
-ghost use Rattle.store.specs.Memory.{view, Becomes, RowOf};
+ghost use Rattle.view.specs.Inner.View.{withRequests, withReplies, withReply, withWaits};
+ghost use Rattle.queue.specs.Inner.Queue.{tagsOf, pairsOf, HeldTags, HeldPairs};
+ghost use Rattle.store.specs.Inner.Layout.{size};
+ghost use Rattle.store.specs.Inner.Memory.{view, Becomes, RowOf};
 
 // ---- how long they are
 

@@ -12,9 +12,9 @@ use super::W;
 ghost use mathlib.Core.Path.{_≡_};
 ghost use Prim.Native.Nat.{_-_, _≤_, _<_, _^_, min};
 ghost use lib.ListN.{length};
-ghost use Rattle.view.specs.View.{withFixed, withAccess, withMerge, withRound, shaped};
-ghost use Rattle.store.specs.Layout.{size};
-ghost use Rattle.store.specs.Memory.{view, Becomes};
+ghost use Rattle.view.specs.Inner.View.{withFixed, withAccess, withMerge, withRound, shaped};
+ghost use Rattle.store.specs.Inner.Layout.{size};
+ghost use Rattle.store.specs.Inner.Memory.{view, Becomes};
 
 // Of a machine with nothing in its counts and queues.
 pub fn set_shape(m: &mut Machine, k: u64, q: u64, w: u64, count: usize)

@@ -9,10 +9,10 @@ ghost use mathlib.Core.Path.{_≡_};
 ghost use Prim.Native.Nat.{_+_, _*_, _/_, _%_, _^_, _≤_, _<_};
 ghost use lib.ListN.{length};
 ghost use Rattle.operation.specs.Operation.{wordsOf};
-ghost use Rattle.wiring.specs.Wiring.{positionOn};
-ghost use Rattle.view.specs.View.{operationIn, valued, withFixed, withCarried, withRequest, linked};
-ghost use Rattle.store.specs.Layout.{size};
-ghost use Rattle.store.specs.Memory.{view, Becomes};
+ghost use Rattle.wiring.specs.Inner.Path.{positionOn};
+ghost use Rattle.view.specs.Inner.View.{operationIn, valued, withFixed, withCarried, withRequest, linked};
+ghost use Rattle.store.specs.Inner.Layout.{size};
+ghost use Rattle.store.specs.Inner.Memory.{view, Becomes};
 
 // A head: the operation's code, the address, the engine's next request in twenty bits, and the path.
 const ADDRESS: u64 = 256;

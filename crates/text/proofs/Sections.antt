@@ -4,7 +4,7 @@ use mathlib.Core.Path.{_≡_, refl}
 use mathlib.Core.List.{List, [], _++_}
 use native.Mathlib.Numerals.{add-one}
 use lib.ListN.{getD}
-use Rattle.digits.specs.Buffer.{Wrote}
+use Rattle.digits.specs.Inner.Buffer.{Wrote}
 use Rattle.digits.proofs.Buffer.{wrote-nothing, wrote-then}
 use Rattle.text.specs.Text.{replyLine, orderLine, wordLine, replyLines, orderLines, wordLines}
 

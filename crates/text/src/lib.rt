@@ -1,7 +1,7 @@
 // The report's text, as bytes in a lent buffer: document 01, "A session given whole".
 ghost use Prim.Native.Nat.{_+_, _*_, _≤_};
 ghost use lib.ListN.{length};
-ghost use Rattle.digits.specs.Buffer.{Wrote, Printed};
+ghost use Rattle.digits.specs.Inner.Buffer.{Wrote, Printed};
 ghost use Rattle.text.specs.Text.{replyLine, orderLine, wordLine, replyLines, orderLines, wordLines, countLines, refusedText, lineRoom};
 
 // The text of a refused trace.

@@ -13,10 +13,13 @@ use Rattle.lists.specs.Choice.{choose}
 use Rattle.lists.proofs.Tests.{clash}
 use Rattle.trace.specs.Bytes.{AreBytes}
 use Rattle.trace.specs.Item.{Item, Items, none, after}
-use Rattle.trace.specs.Table.{size, recordOf, traceOf, AllFitBytes, none-fit, after-fit}
+use Rattle.trace.specs.Table.{size}
+use Rattle.trace.specs.Inner.Write.{recordOf, traceOf}
+use Rattle.trace.specs.Inner.Fits.{AllFitBytes, none-fit, after-fit}
 use Rattle.trace.specs.Records.{Records, done, broken, next, records, recordsUpTo}
 use Rattle.trace.specs.Refusals.{fault}
-use Rattle.trace.specs.Check.{refused, accepted, ended, decide, checkRecords, check, Valid, valid-none, valid-after}
+use Rattle.trace.specs.Check.{refused, accepted, ended, decide, checkRecords, check}
+use Rattle.trace.specs.Inner.Fits.{Valid, valid-none, valid-after}
 use Rattle.trace.proofs.Records.{records-done}
 use Rattle.trace.proofs.Written.{length-record, records-written, first-of}
 

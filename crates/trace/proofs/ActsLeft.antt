@@ -11,14 +11,18 @@ use Rattle.lists.specs.Search.{All, nil, cons}
 use Rattle.lists.proofs.Tests.{clash}
 use Rattle.lists.proofs.Every.{all-more}
 use Rattle.event.specs.Event.{Event, Act}
-use Rattle.trace.specs.Bytes.{AreBytes, number, bytes, fieldBytes, total}
+use Rattle.trace.specs.Bytes.{AreBytes, number, total}
+use Rattle.trace.specs.Inner.Write.{bytes, fieldBytes}
 use Rattle.trace.specs.Item.{Item, shape, word, request, act, Items, none, after}
-use Rattle.trace.specs.Table.{partsOf, section, recordSize, size, recordOf, traceOf, AllFitBytes, after-fit}
+use Rattle.trace.specs.Table.{partsOf, section, recordSize, size}
+use Rattle.trace.specs.Inner.Write.{recordOf, traceOf}
+use Rattle.trace.specs.Inner.Fits.{AllFitBytes, after-fit}
 use Rattle.trace.specs.Contents.{contents, add, actsOf, lastSection, actsAt}
 use Rattle.trace.specs.Refusals.{fault}
-use Rattle.trace.specs.Check.{accepted, check, Valid, valid-after}
-use Rattle.trace.specs.Ranges.{EventBytes}
-use Rattle.trace.specs.Acts.{actSize, ActFits, actsSize, actOffset, actsWritten, Left, due}
+use Rattle.trace.specs.Check.{accepted, check}
+use Rattle.trace.specs.Inner.Fits.{Valid, valid-after}
+use Rattle.trace.specs.Inner.Ranges.{EventBytes}
+use Rattle.trace.specs.Inner.Acts.{actSize, ActFits, actsSize, actOffset, actsWritten, Left, due}
 use Rattle.trace.specs.declared.acts.Due.the-variants.{End, Event as EventDue, Drain}
 use Rattle.trace.proofs.Numbers.{number-drop, number-bytes}
 use Rattle.trace.proofs.Written.{length-record}

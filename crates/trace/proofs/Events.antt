@@ -11,12 +11,12 @@ use lib.ListN.{getD}
 use borrow.Author.Tests.{eqb-true, ltb-true, lt-ltb}
 use Rattle.lists.specs.Choice.{both}
 use Rattle.lists.proofs.Tests.{by-cases, both-true, both-assoc, both-yes}
-use Rattle.words.specs.Digits.{digit, byteIn}
+use Rattle.words.specs.Inner.Digits.{digit, byteIn}
 use Rattle.words.proofs.Digits.{digit-zero, digit-suc}
 use Rattle.event.specs.Event.{levelFits, namesStep}
 use Rattle.event.proofs.Levels.{step-in}
 use Rattle.trace.specs.Bytes.{AreBytes, number}
-use Rattle.trace.specs.Masked.{headerFits, eventBytes, isEvent, maskTells, Mask, Steps}
+use Rattle.trace.specs.Inner.Masked.{headerFits, eventBytes, isEvent, maskTells, Mask, Steps}
 use Rattle.trace.proofs.Numbers.{byte-number, number-join, number-below}
 use Rattle.trace.proofs.Masks.{Field, is, under, maskOf, valueOf, asked, mask, value, fits, masked}
 

@@ -5,7 +5,9 @@ use mathlib.Core.List.{List, [], _∷_, _++_, append-assoc}
 use native.Mathlib.Omega.{arith}
 use lib.ListN.{length, take, drop, length-append}
 use lib.Seq.{take-add, drop-drop}
-use Rattle.trace.specs.Bytes.{AreBytes, bytes, fieldsIn, fieldBytes, total, FieldsFit, no-field, field-fits}
+use Rattle.trace.specs.Bytes.{AreBytes, fieldsIn, total}
+use Rattle.trace.specs.Inner.Write.{bytes, fieldBytes}
+use Rattle.trace.specs.Inner.Fits.{FieldsFit, no-field, field-fits}
 use Rattle.trace.proofs.Numbers.{number-below, length-bytes, bytes-number, number-bytes}
 
 pub length-fields : (widths s : List ℕ) (i : ℕ) → length (fieldsIn widths s i) ≡ length widths

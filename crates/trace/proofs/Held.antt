@@ -19,7 +19,7 @@ use denote.Ref.{RefT, now}
 use denote.Signature.{Slot, plain, shrSlice, namedLft}
 use denote.Slice.{sliceVal, ShrSlice, shr-slice-copy}
 use denote.Triple.Walked.{Stays, stay-none, stay-none-slice, AllGo, goes-none, goes-none-slice}
-use Rattle.trace.specs.Answers.{HeadRead}
+use Rattle.trace.specs.Inner.Told.{HeadRead}
 use Rattle.trace.specs.declared.reader.Reader.{Reader}
 use Rattle.trace.specs.declared.record.Head.{Head}
 use Rattle.trace.proofs.reader.Reader as T

@@ -8,7 +8,7 @@ use Rattle.event.specs.Event.{Act}
 use Rattle.trace.specs.Item.{Shape, Word, act, Items, after}
 use Rattle.trace.specs.Table.{size}
 use Rattle.trace.specs.Contents.{contents, add, given, lastSection, actsAt}
-use Rattle.trace.specs.Known.{Known, Same}
+use Rattle.trace.specs.Inner.Known.{Known, Same}
 use Rattle.trace.specs.declared.progress.Progress.{Progress}
 use Rattle.trace.proofs.Ranges.{act-section}
 

@@ -12,7 +12,7 @@ use lib.Pow.{pow-pos, shr-mod, split}
 use borrow.Author.Tests.{eq-eqb, ne-eqb}
 use Rattle.lists.specs.Choice.{both}
 use Rattle.lists.proofs.Tests.{eqb-cases, ltb-cases}
-use Rattle.words.specs.Digits.{byteIn}
+use Rattle.words.specs.Inner.Digits.{byteIn}
 use Rattle.words.proofs.Digits.{digit-zero, digit-suc}
 
 -- what is asked of a byte: that it is v, or that it is below 2^j

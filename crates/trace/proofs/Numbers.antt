@@ -9,9 +9,10 @@ use native.Mathlib.Decide.{decLt}
 use lib.ListN.{length, getD, take, drop, length-append, length-take, List·getD-eq-default}
 use lib.Seq.{getD-append-seam, getD-drop, getD-take, drop-cons}
 use Rattle.lists.proofs.Tests.{by-cases}
-use Rattle.words.specs.Digits.{byteIn}
+use Rattle.words.specs.Inner.Digits.{byteIn}
 use Rattle.words.proofs.Digits.{digit-zero, digit-suc}
-use Rattle.trace.specs.Bytes.{AreBytes, number, bytes}
+use Rattle.trace.specs.Bytes.{AreBytes, number}
+use Rattle.trace.specs.Inner.Write.{bytes}
 
 pub bytes-drop : {s : List ℕ} → AreBytes s → (n : ℕ) → AreBytes (drop n s)
 bytes-drop {s} b n = record { below = λ i. rw (getD-drop n s i 0) (b .below (n + i)) }

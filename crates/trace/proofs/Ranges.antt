@@ -14,13 +14,16 @@ use Rattle.lists.proofs.Every.{all-more}
 use Rattle.lists.proofs.Tests.{clash, both-true}
 use Rattle.operation.specs.Operation.{operandsFit}
 use Rattle.event.specs.Event.{Event, Act, event, drain, namesStep}
-use Rattle.trace.specs.Bytes.{AreBytes, field-fits}
+use Rattle.trace.specs.Bytes.{AreBytes}
+use Rattle.trace.specs.Inner.Fits.{field-fits}
 use Rattle.trace.specs.Item.{Shape, Word, Request, Item, shape, word, request, act, Items, none, after}
-use Rattle.trace.specs.Table.{partsOf, section, FitsBytes, AllFitBytes, after-fit}
+use Rattle.trace.specs.Table.{partsOf, section}
+use Rattle.trace.specs.Inner.Fits.{FitsBytes, AllFitBytes, after-fit}
 use Rattle.trace.specs.Contents.{contents, add, shapeOf, wordsGiven, requestsOf, actsOf, lastSection}
 use Rattle.trace.specs.Refusals.{unless, orElse, mayFollow, shapeFits, requestFits, ownFault, fault}
-use Rattle.trace.specs.Check.{accepted, check, Valid, valid-after}
-use Rattle.trace.specs.Ranges.{WordBytes, RequestBytes, EventBytes, ShapeIn, RequestIn, ActIn, InRange}
+use Rattle.trace.specs.Check.{accepted, check}
+use Rattle.trace.specs.Inner.Fits.{Valid, valid-after}
+use Rattle.trace.specs.Inner.Ranges.{WordBytes, RequestBytes, EventBytes, ShapeIn, RequestIn, ActIn, InRange}
 use Rattle.trace.proofs.Tests.{unless-zero, or-else-zero}
 use Rattle.trace.proofs.Table.{item-right}
 use Rattle.trace.proofs.Accept.{Accepted, accepted-is}

@@ -14,8 +14,8 @@ use Rattle.lists.proofs.Tests.{clash}
 use Rattle.trace.specs.Bytes.{number}
 use Rattle.trace.specs.Table.{isRow, kindRow, bodyRow, item}
 use Rattle.trace.specs.Records.{Split, nothing, faulty, whole, split, Records, done, broken, next, divided, recordsUpTo, records}
-use Rattle.trace.specs.Answers.{RecordFits}
-use Rattle.trace.specs.Known.{listing, Bodied}
+use Rattle.trace.specs.Inner.Told.{RecordFits}
+use Rattle.trace.specs.Inner.Known.{listing, Bodied}
 use Rattle.trace.specs.declared.record.Listed.{Listed}
 use Rattle.trace.specs.declared.record.Listed.the-variants.{NoKind, NoLength, In}
 use Rattle.trace.proofs.Numbers.{number-drop}

@@ -18,9 +18,9 @@ use Rattle.trace.specs.Records.{next, records}
 use Rattle.trace.specs.Contents.{shapeOf, lastSection}
 use Rattle.trace.specs.Refusals.{fault, orElse, mayFollow, ownFault}
 use Rattle.trace.specs.Check.{decide, checkRecords}
-use Rattle.trace.specs.Acts.{actSize}
-use Rattle.trace.specs.Known.{eventIn, Same, Passed, DrainsPassed, FourDrains}
-use Rattle.trace.specs.Masked.{Mask, Steps, TellsEvent}
+use Rattle.trace.specs.Inner.Acts.{actSize}
+use Rattle.trace.specs.Inner.Known.{eventIn, Same, Passed, DrainsPassed, FourDrains}
+use Rattle.trace.specs.Inner.Masked.{Mask, Steps, TellsEvent}
 use Rattle.trace.proofs.Numbers.{number-drop, number-join, number-below}
 use Rattle.trace.proofs.Table.{row-told, row-sizes, says-event, says-drain}
 use Rattle.trace.proofs.Records.{Whole, is-whole, body-size, records-whole}

@@ -15,7 +15,7 @@ use Rattle.event.specs.Event.{Act, event, drain}
 use Rattle.trace.specs.Bytes.{number, fieldsIn, total}
 use Rattle.trace.specs.Item.{Item, shape, word, request, act}
 use Rattle.trace.specs.Table.{Row, shapeRow, wordRow, requestRow, eventRow, drainRow, rows, bodySize, noRow, isRow, firstRow, kindRow, bodyRow, item, Parts, partsOf, rowOf, section, recordSize}
-use Rattle.trace.specs.Known.{shapeIn, wordIn, requestIn, eventIn, Bodied, moved, movedPast}
+use Rattle.trace.specs.Inner.Known.{shapeIn, wordIn, requestIn, eventIn, Bodied, moved, movedPast}
 use Rattle.trace.specs.declared.progress.Progress.{Progress}
 use Rattle.trace.specs.declared.record.Listed.the-variants.{NoLength, In}
 use Rattle.trace.proofs.Numbers.{number-one}

@@ -1,11 +1,10 @@
 -- What a trace is told: document 01, "What a trace is told".
 use Prim.Native.Nat.{ℕ, zero, suc}
 use mathlib.Core.List.{List}
-use mathlib.Core.Path.{_≡_}
 use lib.ListN.{length}
 use lib.Dec.{ltb}
 use Rattle.lists.specs.Choice.{choose}
-use Rattle.trace.specs.Item.{Item, Items, none, after}
+use Rattle.trace.specs.Item.{Items, none, after}
 use Rattle.trace.specs.Records.{Records, done, broken, next, records}
 use Rattle.trace.specs.Refusals.{fault}
 
@@ -38,8 +37,3 @@ checkRecords before (next x rest) = decide (fault before x) before (checkRecords
 -- "Order: 10; then record by record"
 unfoldable pub check : List ℕ → Verdict
 check trace = choose (ltb 65536 (length trace)) (refused 10 none) (checkRecords none (records trace))
-
--- no item is refused
-pub data Valid : Items → Type 0 where
-  valid-none : Valid none
-  valid-after : {before : Items} {x : Item} → Valid before → fault before x ≡ 0 → Valid (after before x)

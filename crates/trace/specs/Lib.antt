@@ -7,7 +7,4 @@ pub mod Contents
 pub mod Refusals
 pub mod Check
 pub mod Answers
-pub mod Ranges
-pub mod Acts
-pub mod Masked
-pub mod Known
+pub mod Inner

@@ -4,11 +4,11 @@ use mathlib.Core.Bool.{Bool, not}
 use lib.ListN.{length}
 use lib.Dec.{ltb, leb, eqb}
 use Rattle.lists.specs.Choice.{choose, both, within}
+use Rattle.operation.specs.Operation.{operandsFit}
 use Rattle.event.specs.Event.{event, drain, namesStep}
 use Rattle.trace.specs.Item.{Shape, Request, Item, shape, word, request, act, Items}
 use Rattle.trace.specs.Table.{section}
 use Rattle.trace.specs.Contents.{Contents, contents, given, lastSection}
-use Rattle.operation.specs.Operation.{operandsFit}
 
 -- the number n where the test fails, 0 where it holds
 abbrev pub unless : Bool → ℕ → ℕ

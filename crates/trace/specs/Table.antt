@@ -1,12 +1,12 @@
 -- The table of records, a row for each kind and length: document 01, "Trace records". Size, reading and writing follow from it.
 use Prim.Native.Nat.{ℕ, _+_}
 use mathlib.Core.Bool.{Bool, not}
-use mathlib.Core.List.{List, [], _∷_, _++_}
+use mathlib.Core.List.{List, [], _∷_}
 use lib.ListN.{length, getD}
 use lib.Dec.{eqb}
 use Rattle.lists.specs.Choice.{choose, both}
 use Rattle.event.specs.Event.{event, drain}
-use Rattle.trace.specs.Bytes.{bytes, fieldsIn, fieldBytes, total, FieldsFit}
+use Rattle.trace.specs.Bytes.{fieldsIn, total}
 use Rattle.trace.specs.Item.{Item, shape, word, request, act, Items, none, after}
 
 -- "kind", the section in which its records stand, from 1; "body", the widths of its fields in bytes; and the item with such fields
@@ -16,45 +16,29 @@ pub record Row : Type 0 where
   pub widths : List ℕ
   pub make : List ℕ → Item
 
+abbrev pub row : ℕ → ℕ → List ℕ → (List ℕ → Item) → Row
+row kind section widths make = record { kind = kind; section = section; widths = widths; make = make }
+
 -- "1 shape: k, Q, W, one byte each"
 abbrev pub shapeRow : Row
-shapeRow = record {
-  kind = 1;
-  section = 1;
-  widths = 1 ∷ 1 ∷ 1 ∷ [];
-  make = λ f. shape (record { k = getD f 0 0; q = getD f 1 0; w = getD f 2 0 });
-}
+shapeRow = row 1 1 (1 ∷ 1 ∷ 1 ∷ []) (λ f. shape (record { k = getD f 0 0; q = getD f 1 0; w = getD f 2 0 }))
 
 -- "2 word: address 1, value 8"
 abbrev pub wordRow : Row
-wordRow = record {
-  kind = 2;
-  section = 2;
-  widths = 1 ∷ 8 ∷ [];
-  make = λ f. word (record { address = getD f 0 0; value = getD f 1 0 });
-}
+wordRow = row 2 2 (1 ∷ 8 ∷ []) (λ f. word (record { address = getD f 0 0; value = getD f 1 0 }))
 
 -- "3 request: engine 1, operation 1, address 1, first operand 8, second operand 8"
 abbrev pub requestRow : Row
-requestRow = record {
-  kind = 3;
-  section = 3;
-  widths = 1 ∷ 1 ∷ 1 ∷ 8 ∷ 8 ∷ [];
-  make = λ f. request (record { engine = getD f 0 0; operation = getD f 1 0; address = getD f 2 0; first = getD f 3 0; second = getD f 4 0 });
-}
+requestRow = row 3 3 (1 ∷ 1 ∷ 1 ∷ 8 ∷ 8 ∷ [])
+    (λ f. request (record { engine = getD f 0 0; operation = getD f 1 0; address = getD f 2 0; first = getD f 3 0; second = getD f 4 0 }))
 
 -- "4 event: what 1, level 1, position 1"
 abbrev pub eventRow : Row
-eventRow = record {
-  kind = 4;
-  section = 4;
-  widths = 1 ∷ 1 ∷ 1 ∷ [];
-  make = λ f. act (event (record { what = getD f 0 0; level = getD f 1 0; position = getD f 2 0 }));
-}
+eventRow = row 4 4 (1 ∷ 1 ∷ 1 ∷ []) (λ f. act (event (record { what = getD f 0 0; level = getD f 1 0; position = getD f 2 0 })))
 
 -- "5 drain: most rounds allowed 2"
 abbrev pub drainRow : Row
-drainRow = record { kind = 5; section = 4; widths = 2 ∷ []; make = λ f. act (drain (getD f 0 0)) }
+drainRow = row 5 4 (2 ∷ []) (λ f. act (drain (getD f 0 0)))
 
 unfoldable pub rows : List Row
 rows = shapeRow ∷ wordRow ∷ requestRow ∷ eventRow ∷ drainRow ∷ []
@@ -66,7 +50,7 @@ bodySize r = total (r .widths)
 -- ---- which row
 -- what stands for none: no row has section 0
 abbrev pub noRow : Row
-noRow = record { kind = 0; section = 0; widths = []; make = λ f. act (drain 0) }
+noRow = row 0 0 [] (λ f. act (drain 0))
 
 abbrev pub isRow : Row → Bool
 isRow r = not (eqb (r .section) 0)
@@ -113,22 +97,3 @@ recordSize x = 4 + bodySize (rowOf x)
 unfoldable pub size : Items → ℕ
 size none = 0
 size (after before x) = size before + recordSize x
-
--- ---- the bytes of an item
--- "body length (2 bytes), kind (2 bytes), body"
-unfoldable pub recordOf : Item → List ℕ
-recordOf x = bytes 2 (bodySize (rowOf x)) ++ (bytes 2 (rowOf x .kind) ++ fieldBytes (rowOf x .widths) (partsOf x .fields))
-
--- record after record
-unfoldable pub traceOf : Items → List ℕ
-traceOf none = []
-traceOf (after before x) = traceOf before ++ recordOf x
-
--- each field fits its bytes
-abbrev pub FitsBytes : Item → Type 0
-FitsBytes x = FieldsFit (rowOf x .widths) (partsOf x .fields)
-
--- and so of all items
-pub data AllFitBytes : Items → Type 0 where
-  none-fit : AllFitBytes none
-  after-fit : {before : Items} {x : Item} → AllFitBytes before → FitsBytes x → AllFitBytes (after before x)

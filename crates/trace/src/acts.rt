@@ -1,5 +1,5 @@
 // The events and drains of an accepted trace, one by one.
-ghost use Rattle.trace.specs.Acts.{ActsLeft, ActRead};
+ghost use Rattle.trace.specs.Inner.Acts.{ActsLeft, ActRead};
 use crate::bytes::number2;
 
 // How many bytes a record of each has.

@@ -1,6 +1,6 @@
 // An event that names a step, told by one masked compare of eight bytes and a look into a set of steps.
 ghost use Prim.Native.Nat.{_≤_};
-ghost use Rattle.trace.specs.Masked.{Mask, Steps, TellsEvent};
+ghost use Rattle.trace.specs.Inner.Masked.{Mask, Steps, TellsEvent};
 
 // An event's header, length and kind, as the one number that its four bytes spell.
 const EVENT_HEADER: u64 = 3 + 65536 * 4;

@@ -1,7 +1,7 @@
 // Acts that are not refused, passed without a look at each: most of a long trace.
 ghost use Prim.Native.Nat.{_+_, _≤_};
 ghost use lib.ListN.{length};
-ghost use Rattle.trace.specs.Known.{Passed, DrainsPassed, FourDrains};
+ghost use Rattle.trace.specs.Inner.Known.{Passed, DrainsPassed, FourDrains};
 use crate::acts::DRAIN_SIZE;
 use crate::acts::EVENT_SIZE;
 use crate::bytes::number4;

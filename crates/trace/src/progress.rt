@@ -2,7 +2,7 @@
 ghost use mathlib.Core.Path.{_≡_};
 ghost use Prim.Native.Nat.{_≤_};
 ghost use lib.ListN.{length};
-ghost use Rattle.trace.specs.Known.{shapeIn, begun, moved, shaped, asked};
+ghost use Rattle.trace.specs.Inner.Known.{shapeIn, begun, moved, shaped, asked};
 
 pub struct Progress {
     pub at: usize,

@@ -3,7 +3,7 @@
 ghost use mathlib.Core.Path.{_≡_};
 ghost use Prim.Native.Nat.{_≤_};
 ghost use lib.ListN.{length};
-ghost use Rattle.trace.specs.Answers.{HeadRead};
+ghost use Rattle.trace.specs.Inner.Told.{HeadRead};
 use crate::record::Head;
 use crate::record::head_at;
 

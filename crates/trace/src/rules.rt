@@ -7,7 +7,7 @@ ghost use Rattle.event.specs.Event.{namesStep, levelFits};
 ghost use mathlib.Core.Bool.{true};
 ghost use Rattle.trace.specs.Table.{item, isRow, bodyRow};
 ghost use Rattle.trace.specs.Refusals.{mayFollow, shapeFits, requestFits, unless, orElse};
-ghost use Rattle.trace.specs.Known.{shapeIn, requestIn, eventIn, findingNumber, OwnFault, RecordFault, Bodied};
+ghost use Rattle.trace.specs.Inner.Known.{shapeIn, requestIn, eventIn, findingNumber, OwnFault, RecordFault, Bodied};
 use crate::Fault;
 use crate::bytes::number8;
 use crate::progress::Progress;

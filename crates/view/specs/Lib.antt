@@ -1,2 +1,2 @@
 -- What the machine in code holds, by name, and its changes.
-pub mod View
+pub mod Inner

@@ -5,16 +5,16 @@ use mathlib.Core.Path.{_≡_, sym, _∙_, ap}
 use mathlib.Core.List.{List}
 use native.Mathlib.Omega.{arith}
 use Rattle.trace.proofs.Answers.{number-range}
+use Rattle.report.specs.declared.Written.{Written}
+use Rattle.report.proofs.Unique.{only-one as only-one-written}
 use Rattle.model.specs.Result.{Lent}
 use Rattle.model.specs.Promise.{Said, refused, counted, says}
 use Rattle.model.specs.declared.Answer.{Answer}
 use Rattle.model.specs.declared.Answer.the-variants.{Accepted, Refused, NoRoom}
 use Rattle.model.proofs.Unique.{says-injective}
-use Rattle.whetbracken.proofs.Answers.{numbers-said, memory-left}
-use Rattle.report.specs.declared.Written.{Written}
-use Rattle.report.proofs.Unique.{only-one as only-one-written}
 use Rattle.whetbracken.specs.Interface.{numbers, Answered, Wrote}
 use Rattle.whetbracken.specs.declared.Numbers.{Numbers}
+use Rattle.whetbracken.proofs.Answers.{numbers-said, memory-left}
 
 pub only-one : (trace : List ℕ) (before : Lent) (r r′ : Numbers) (m m′ : Lent) → Answered trace before r m → Answered trace before r′ m′ → (r ≡ r′) × (m ≡ m′)
 only-one trace before r r′ m m′ p p′ = (numbers-said p ∙ sym (numbers-said p′), memory-left p ∙ sym (memory-left p′))

@@ -2,12 +2,12 @@
 use Prim.Native.Nat.{ℕ}
 use mathlib.Core.Path.{_≡_}
 use mathlib.Core.List.{List}
+use Rattle.report.specs.Written.{Reported}
+use Rattle.report.specs.declared.Written.{Written}
 use Rattle.model.specs.Result.{Lent}
 use Rattle.model.specs.Promise.{Said, refused, counted, says}
 use Rattle.model.specs.Demands.{Kept}
 use Rattle.model.specs.declared.Answer.{Answer}
-use Rattle.report.specs.Written.{Reported}
-use Rattle.report.specs.declared.Written.{Written}
 use Rattle.whetbracken.specs.declared.Numbers.{Numbers}
 
 -- "The answer is the number and the offset"; "Also returned: order length, module accesses .., merges, rounds". No refusal has number

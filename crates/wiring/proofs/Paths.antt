@@ -6,7 +6,8 @@ use native.Mathlib.Nat.{add-comm, mul-assoc, div-one, add-mul-div-right, lt-of-l
 use native.Mathlib.Omega.{arith}
 use lib.Pow.{pow-add, pow-mono, pow-pos, shr-shr}
 use Rattle.words.proofs.Digits.{place, place-suc, digit-pushed, digit-moved}
-use Rattle.wiring.specs.Wiring.{moduleOf, position, positionOn, PathOf}
+use Rattle.wiring.specs.Wiring.{moduleOf, position}
+use Rattle.wiring.specs.Inner.Path.{positionOn, PathOf}
 use Rattle.wiring.proofs.Laws.{position-below}
 use Rattle.wiring.proofs.Shifts.{width-small}
 

@@ -1,7 +1,5 @@
 -- The omega network's wiring: document 01, "Wiring and queues".
-use Prim.Native.Nat.{ℕ, zero, suc, _+_, _-_, _*_, _/_, _%_, _^_, _≤_, _<_}
-use mathlib.Core.Path.{_≡_}
-use Rattle.words.specs.Digits.{digit}
+use Prim.Native.Nat.{ℕ, zero, suc, _+_, _-_, _*_, _/_, _%_, _^_}
 
 -- "Word a belongs to module a mod N", N = 2^k
 unfoldable pub moduleOf : ℕ → ℕ → ℕ
@@ -27,12 +25,3 @@ nextBit k m s = m / 2 ^ (k - suc s) % 2
 unfoldable pub shuffled : ℕ → ℕ → ℕ → ℕ → ℕ
 shuffled k e m zero = e
 shuffled k e m (suc s) = replaced (rotated k (shuffled k e m s)) (nextBit k m s)
-
--- The positions of a path in one word, four bits for each level, level 0 the lowest: the position at a level
-unfoldable pub positionOn : ℕ → ℕ → ℕ
-positionOn path s = digit 4 path s
-
--- the path of engine e to module m in such a word
-pub record PathOf (k e m path : ℕ) : Type 0 where
-  pub positions : (s : ℕ) → s ≤ k → positionOn path s ≡ position k e m s
-  pub small : path < 2 ^ 20

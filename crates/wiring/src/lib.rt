@@ -1,7 +1,8 @@
 // The omega network's wiring: document 01, "Wiring and queues", after Lawrie, "Access and Alignment of Data in an Array Processor", 1975.
 ghost use mathlib.Core.Path.{_≡_};
 ghost use Prim.Native.Nat.{_^_, _≤_, _<_};
-ghost use Rattle.wiring.specs.Wiring.{moduleOf, positionOn, PathOf};
+ghost use Rattle.wiring.specs.Wiring.{moduleOf};
+ghost use Rattle.wiring.specs.Inner.Path.{positionOn, PathOf};
 
 // The module that a word belongs to.
 pub fn module_of(k: usize, address: u64) -> u64

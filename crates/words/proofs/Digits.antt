@@ -10,7 +10,7 @@ use lib.Arith.{digits-div, digits-mod, mod-mul}
 use lib.Pow.{pow-add, pow-pos, shr-shr}
 use Rattle.lists.specs.Table.{update}
 use Rattle.lists.proofs.Tables.{update-ind}
-use Rattle.words.specs.Digits.{digit}
+use Rattle.words.specs.Inner.Digits.{digit}
 
 -- what the number at a place counts by
 abbrev pub place : ℕ → ℕ → ℕ

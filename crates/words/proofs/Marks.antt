@@ -7,7 +7,7 @@ use lib.Pow.{pow-pos}
 use Rattle.lists.specs.Choice.{choose}
 use Rattle.lists.specs.Table.{update}
 use Rattle.lists.proofs.Tests.{ltb-cases}
-use Rattle.words.specs.Digits.{digit, bitIn, LowBits}
+use Rattle.words.specs.Inner.Digits.{digit, bitIn, LowBits}
 use Rattle.words.proofs.Digits.{place, digit-zero, digit-suc, digit-none}
 use Rattle.words.proofs.Written.{one-shifted, more-fits, more-digits}
 

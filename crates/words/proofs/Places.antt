@@ -8,7 +8,7 @@ use native.Mathlib.Omega.{arith}
 use lib.Bits.{bitAnd, bitXor, and-block, and-comm, and-shifted, and-le-l, and-le-r, xor-shr, xor-mod, xor-self, xor-add-and, xor-lt}
 use lib.Count.{trailingZeros}
 use Rattle.lists.proofs.Tests.{by-cases}
-use Rattle.words.specs.Digits.{byteIn, PlaceOf}
+use Rattle.words.specs.Inner.Digits.{byteIn, PlaceOf}
 use Rattle.words.proofs.Digits.{digit-zero, digit-suc}
 use Rattle.words.proofs.Zeros.{zeros-pass, zeros-stop}
 

@@ -7,7 +7,7 @@ use native.Mathlib.Nat.{mod-le, mod-lt, mod-eq-of-lt, zero-mod, div-mul-le-self,
 use native.Mathlib.Omega.{arith}
 use lib.Pow.{pow-pos, pow-mono, shl-exact}
 use Rattle.lists.specs.Table.{update}
-use Rattle.words.specs.Digits.{digit, Above, Pushed, Topped, Without}
+use Rattle.words.specs.Inner.Digits.{digit, Above, Pushed, Topped, Without}
 use Rattle.words.proofs.Digits.{place, place-suc, Replaced, replaced, replaced-fits, digit-lt, digit-le, digit-none, digit-from}
 use Rattle.words.proofs.Digits.{digit-pushed, digit-moved}
 use Rattle.words.proofs.Digits.{below-low, topped, topped-low, topped-high, without, without-low, without-high}

@@ -11,7 +11,7 @@ use lib.Bits.{shifted-half, shifted-even}
 use lib.Count.{trailingZeros, under}
 use lib.Pow.{pow-pos}
 use Rattle.lists.proofs.Tests.{by-cases}
-use Rattle.words.specs.Digits.{digit, FirstBusy}
+use Rattle.words.specs.Inner.Digits.{digit, FirstBusy}
 use Rattle.words.proofs.Digits.{digit-none, digit-zero, digit-suc, digits-same}
 
 shifted : (n k z : ℕ) → trailingZeros (n + k) (z * 2 ^ n) ≡ n + trailingZeros k z

@@ -4,7 +4,7 @@ ghost use mathlib.Core.Logic.{_≢_};
 ghost use Prim.Native.Nat.{suc, _-_, _≤_, _<_};
 ghost use lib.Dec.{eqb};
 ghost use Rattle.lists.specs.Table.{update};
-ghost use Rattle.words.specs.Digits.{lengthIn, byteIn, bitIn, FirstBusy, Above, PlaceOf, Pushed, Topped, Without, LowBits};
+ghost use Rattle.words.specs.Inner.Digits.{lengthIn, byteIn, bitIn, FirstBusy, Above, PlaceOf, Pushed, Topped, Without, LowBits};
 
 // ---- sixteen lengths
 

@@ -5,7 +5,7 @@ use native.Mathlib.Numerals.{add-one}
 use native.Mathlib.Omega.{arith}
 use lib.ListN.{length, take}
 use lib.Seq.{take-suc, take-all}
-use Rattle.digits.specs.Buffer.{Wrote}
+use Rattle.digits.specs.Inner.Buffer.{Wrote}
 use Rattle.digits.proofs.Buffer.{wrote-nothing, wrote-then}
 use Rattle.digits.proofs.put_bytes.Statement.{statement}
 use Rattle.digits.proofs.put_bytes.Tie as tie

@@ -2,7 +2,7 @@ use Prim.Native.Nat.{_-_}
 use native.Mathlib.Omega.{arith}
 use lib.ListN.{length}
 use borrow.Author.Needs.{needs}
-use Rattle.load.specs.Loop.{Inside}
+use Rattle.load.specs.Inner.Loop.{Inside}
 use Rattle.load.proofs.Verdicts.{inside-start, loaded-long, loaded-fail, loaded-stop}
 use Rattle.load.proofs.load.Statement.{statement}
 use Rattle.load.proofs.load.Tie as tie

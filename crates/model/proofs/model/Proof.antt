@@ -3,7 +3,7 @@ use borrow.Author.Needs.{needs}
 use mathlib.Core.Path.{sym, _∙_, ap}
 use denote.Ref.{now}
 use Rattle.trace.specs.Bytes.{AreBytes}
-use Rattle.trace.specs.Answers as checked
+use Rattle.trace.specs.Inner.Told as checked
 use Rattle.run.proofs.Loading.{load-loading}
 use Rattle.model.specs.Result.{Lent, lent}
 use Rattle.model.proofs.Given.{may-give, gives-leaves}

@@ -4,7 +4,7 @@ use mathlib.Core.Path.{sym, _∙_}
 use native.Mathlib.Omega.{arith}
 use borrow.Author.Needs.{needs}
 use borrow.Author.Tests.{eq-eqb, ne-eqb}
-use Rattle.store.specs.Memory.{view}
+use Rattle.store.specs.Inner.Memory.{view}
 use Rattle.node.proofs.Laws.{Passed, passed-more, youngest-none, youngest-at}
 use Rattle.node.proofs.youngest.Statement.{statement}
 use Rattle.node.proofs.youngest.Tie as tie

@@ -2,23 +2,23 @@
 use Prim.Native.Nat.{ℕ, _-_, _<_}
 use mathlib.Core.Logic.{⊎-elim}
 use native.Mathlib.Omega.{arith}
-use Rattle.view.specs.View.{withOrder}
-use Rattle.queue.specs.Queue.{pairIn}
-use Rattle.store.specs.Memory.{view, Becomes}
-use Rattle.replies.proofs.Expanded.{sofar, Past, past-none, past-next, tags-part, one-room, put-one, under, fit-kept, put-none}
-use Rattle.replies.proofs.Expanded.{put-hit, put-miss, put-all, put-empty, second-room}
+use Rattle.words.proofs.place_of.Reads as place-of-reads
+use Rattle.queue.specs.Inner.Queue.{pairIn}
+use Rattle.queue.proofs.Pairs.first.Reads as first-reads
+use Rattle.queue.proofs.Pairs.second.Reads as second-reads
+use Rattle.view.specs.Inner.View.{withOrder}
 use borrow.Author.Needs.{needs}
 use borrow.Fn.Kinds.{In}
 use borrow.Fn.PlainCycle.{Measures, is, falls, and}
-use Rattle.replies.proofs.expand.Reads as expand
-use Rattle.replies.proofs.expand.Kinds as expand-kinds
-use Rattle.replies.proofs.+expand.Lts-expand as expand-lts
-use Rattle.words.proofs.place_of.Reads as place-of-reads
-use Rattle.queue.proofs.Pairs.first.Reads as first-reads
-use Rattle.queue.proofs.Pairs.second.Reads as second-reads
+use Rattle.store.specs.Inner.Memory.{view, Becomes}
 use Rattle.store.proofs.answers.append_order.Reads as append-order-reads
 use Rattle.store.proofs.queues.load_waits.Reads as load-waits-reads
 use Rattle.store.proofs.tags.position_of.Reads as position-of-reads
+use Rattle.replies.proofs.Expanded.{sofar, Past, past-none, past-next, tags-part, one-room, put-one, under, fit-kept, put-none}
+use Rattle.replies.proofs.Expanded.{put-hit, put-miss, put-all, put-empty, second-room}
+use Rattle.replies.proofs.expand.Reads as expand
+use Rattle.replies.proofs.expand.Kinds as expand-kinds
+use Rattle.replies.proofs.+expand.Lts-expand as expand-lts
 use Rattle.replies.proofs.+expand.{statement}
 use Rattle.replies.proofs.+expand.Tie.{close}
 

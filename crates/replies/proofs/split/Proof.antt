@@ -2,8 +2,8 @@
 use mathlib.Core.Path.{_≡_, sym, ap, _∙_}
 use native.Mathlib.Omega.{arith}
 use lib.ListN.{getD}
-use Rattle.lists.specs.Pair.{Pair}
-use Rattle.queue.specs.Queue.{pairsOf, noPair}
+use Rattle.lists.specs.Inner.Pair.{Pair}
+use Rattle.queue.specs.Inner.Queue.{pairsOf, noPair}
 use Rattle.queue.proofs.Laws.{pairs-at}
 use Rattle.replies.proofs.Returned.{split-full, split-room, answered-room, one-less}
 use borrow.Author.Needs.{needs}

@@ -3,8 +3,8 @@ use Prim.Native.Nat.{_-_, _≤_, _<_}
 use mathlib.Core.Path.{_≡_}
 use native.Mathlib.Omega.{arith}
 use borrow.Author.Needs.{needs}
-use Rattle.store.specs.Memory.{view}
-use Rattle.report.specs.Names.{Marked}
+use Rattle.store.specs.Inner.Memory.{view}
+use Rattle.report.specs.Inner.Names.{Marked}
 use Rattle.report.proofs.Names.{marked-none, marked-more}
 use Rattle.report.proofs.name_requests.Statement.{statement}
 use Rattle.report.proofs.name_requests.Tie as tie

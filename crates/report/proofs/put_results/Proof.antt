@@ -1,7 +1,7 @@
 -- `report::put_results` meets its contract: the sections in their order.
 use native.Mathlib.Omega.{arith}
 use borrow.Author.Needs.{needs}
-use Rattle.store.specs.Memory.{view}
+use Rattle.store.specs.Inner.Memory.{view}
 use Rattle.report.proofs.Lines.{printed-sections}
 use Rattle.report.proofs.put_results.Statement.{statement}
 use Rattle.report.proofs.put_results.Tie as tie

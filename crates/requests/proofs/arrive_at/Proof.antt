@@ -1,7 +1,7 @@
 -- `arrive_at` meets its contract: refused, or what changed is stored.
 use native.Mathlib.Omega.{arith}
 use borrow.Author.Needs.{needs}
-use Rattle.store.specs.Memory.{view}
+use Rattle.store.specs.Inner.Memory.{view}
 use Rattle.node.specs.declared.Node.{Node}
 use Rattle.requests.proofs.Landings.{InHand, loaded-apart, loaded-rooms, longer-by-one, recorded-by-one, merges-still-few}
 use Rattle.requests.proofs.Landings.{went-refused, went-appended, went-merged}

@@ -1,7 +1,7 @@
 -- `forward` meets its contract: no room, refused, or moved.
 use Prim.Native.Nat.{_<_}
 use native.Mathlib.Omega.{arith}
-use Rattle.shown.specs.Reached.{single}
+use Rattle.shown.specs.Inner.Reached.{single}
 use Rattle.requests.proofs.Onward.{levels-few, rooms, queue-few, Going, going-apart, going-few, full-moves, source-filled}
 use Rattle.requests.proofs.Onward.{refused-moves, forward-goes, forwarded-moves}
 use Rattle.requests.proofs.forward.Statement.{statement}

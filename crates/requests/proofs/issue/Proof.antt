@@ -1,7 +1,7 @@
 -- `issue` meets its contract: no room, refused, or moved.
 use native.Mathlib.Omega.{arith}
 use borrow.Author.Needs.{needs}
-use Rattle.shown.specs.Reached.{single}
+use Rattle.shown.specs.Inner.Reached.{single}
 use Rattle.requests.proofs.Onward.{rooms, Going, going-apart, going-few, full-moves, count-still-few, source-filled, refused-moves}
 use Rattle.requests.proofs.Onward.{issue-goes, issued-moves}
 use Rattle.requests.proofs.issue.Statement.{statement}

@@ -3,7 +3,7 @@ use Prim.Native.Nat.{_-_, _≤_}
 use native.Mathlib.Omega.{arith}
 use lib.ListN.{getD}
 use borrow.Author.Needs.{needs}
-use Rattle.store.specs.Memory.{view}
+use Rattle.store.specs.Inner.Memory.{view}
 use Rattle.results.proofs.Filling.{Filled, filled-none, filled-more, filled-list}
 use Rattle.results.proofs.copy_order.Statement.{statement}
 use Rattle.results.proofs.copy_order.Tie as tie

@@ -2,7 +2,7 @@
 use mathlib.Core.Path.{_∙_}
 use native.Mathlib.Omega.{arith}
 use borrow.Author.Needs.{needs}
-use Rattle.store.specs.Memory.{view}
+use Rattle.store.specs.Inner.Memory.{view}
 use Rattle.start.proofs.Linking.{first-none, first-some, first-there}
 use Rattle.start.proofs.first_of.Statement.{statement}
 use Rattle.start.proofs.first_of.Tie as tie

@@ -1,8 +1,8 @@
 -- `link` meets its contract: what is stored is the request before its engine's first so far.
 use mathlib.Core.Path.{ap}
-use Rattle.view.specs.View.{View}
+use Rattle.view.specs.Inner.View.{View}
+use Rattle.store.specs.Inner.Memory.{view}
 use Rattle.start.proofs.Linking.{link-stored}
-use Rattle.store.specs.Memory.{view}
 use native.Mathlib.Omega.{arith}
 use borrow.Author.Needs.{needs}
 use Rattle.start.proofs.link.Statement.{statement}

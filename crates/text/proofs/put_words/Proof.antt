@@ -3,7 +3,7 @@ use Prim.Native.Nat.{_+_, _*_, _-_, _≤_}
 use mathlib.Core.Path.{_≡_, refl}
 use native.Mathlib.Omega.{arith}
 use lib.ListN.{length}
-use Rattle.digits.specs.Buffer.{Wrote}
+use Rattle.digits.specs.Inner.Buffer.{Wrote}
 use Rattle.text.specs.Text.{lineRoom, wordLines}
 use Rattle.text.proofs.Sections.{addresses, section-starts, section-goes}
 use Rattle.text.proofs.put_words.Statement.{statement}

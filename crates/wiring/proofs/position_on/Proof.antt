@@ -2,8 +2,8 @@
 use mathlib.Core.Path.{refl}
 use native.Mathlib.Omega.{arith}
 use borrow.Author.Needs.{needs}
-use Rattle.words.specs.Digits.{digit}
-use Rattle.wiring.specs.Wiring.{positionOn}
+use Rattle.words.specs.Inner.Digits.{digit}
+use Rattle.wiring.specs.Inner.Path.{positionOn}
 use Rattle.wiring.proofs.position_on.Statement.{statement}
 use Rattle.wiring.proofs.position_on.Tie as tie
 

@@ -1,7 +1,7 @@
 -- `words::byte_at` meets its contract, by what a digit is.
 use borrow.Author.Needs.{needs}
 use mathlib.Core.Path.{refl}
-use Rattle.words.specs.Digits.{digit}
+use Rattle.words.specs.Inner.Digits.{digit}
 use Rattle.words.proofs.byte_at.Statement.{statement}
 use Rattle.words.proofs.byte_at.Tie as tie
 

@@ -2,7 +2,7 @@
 use borrow.Author.Needs.{needs}
 use mathlib.Core.Path.{refl}
 use native.Mathlib.Omega.{arith}
-use Rattle.words.specs.Digits.{digit}
+use Rattle.words.specs.Inner.Digits.{digit}
 use Rattle.words.proofs.length_in.Statement.{statement}
 use Rattle.words.proofs.length_in.Tie as tie
 

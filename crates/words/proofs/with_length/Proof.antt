@@ -3,7 +3,7 @@ use borrow.Author.Needs.{needs}
 use Prim.Native.Nat.{_<_, _^_}
 use mathlib.Core.Path.{refl}
 use native.Mathlib.Omega.{arith}
-use Rattle.words.specs.Digits.{digit}
+use Rattle.words.specs.Inner.Digits.{digit}
 use Rattle.words.proofs.Written.{taken, written-fits, written-digits}
 use Rattle.words.proofs.with_length.Statement.{statement}
 use Rattle.words.proofs.with_length.Tie as tie

@@ -2,7 +2,7 @@
 use mathlib.Core.Path.{ap, _∙_}
 use native.Mathlib.Omega.{arith}
 use denote.Ref.{now}
-use Rattle.trace.specs.Known.{shapeIn, wordIn, requestIn}
+use Rattle.trace.specs.Inner.Known.{shapeIn, wordIn, requestIn}
 use Rattle.trace.specs.declared.progress.Progress.{Progress}
 use Rattle.trace.proofs.Table.{says-shape, says-word, says-request, says-act, row-told, row-sizes, moved-item}
 use Rattle.load.proofs.Keeps.{keeps-shape, keeps-word, keeps-request, keeps-act}

@@ -2,8 +2,8 @@ use mathlib.Core.Path.{sym}
 use native.Mathlib.Omega.{arith}
 use denote.Ref.{now}
 use borrow.Author.Needs.{needs}
-use Rattle.load.proofs.Verdicts.{turn-stop, turn-bad, turn-fault, turn-go, clean-request}
 use Rattle.trace.proofs.Records.{Body, body-at}
+use Rattle.load.proofs.Verdicts.{turn-stop, turn-bad, turn-fault, turn-go, clean-request}
 use Rattle.load.proofs.turn.one_turn.Statement.{statement}
 use Rattle.load.proofs.turn.one_turn.Tie as tie
 

@@ -5,10 +5,10 @@ use native.Mathlib.Omega.{arith}
 use lib.ListN.{length}
 use denote.Ref.{now}
 use borrow.Author.Needs.{needs}
-use Rattle.trace.specs.Known.{requestIn}
-use Rattle.load.specs.Loop.{RequestsPassed}
+use Rattle.trace.specs.Inner.Known.{requestIn}
 use Rattle.trace.proofs.Records.{body-size}
 use Rattle.trace.proofs.Ranges.{requestFault, request-right}
+use Rattle.load.specs.Inner.Loop.{RequestsPassed}
 use Rattle.load.proofs.Requests.{requests-start, requests-one-more}
 use Rattle.load.proofs.turn.requests_from.Statement.{statement}
 use Rattle.load.proofs.turn.requests_from.Tie as tie

@@ -2,10 +2,10 @@
 use mathlib.Core.Path.{_≡_, sym, _∙_}
 use native.Mathlib.Omega.{arith}
 use borrow.Author.Needs.{needs}
-use Rattle.store.specs.Memory.{view}
-use Rattle.queue.specs.Queue.{tagsOf}
+use Rattle.queue.specs.Inner.Queue.{tagsOf}
 use Rattle.queue.specs.declared.Place.the-variants.{At}
-use Rattle.node.specs.Node.{youngestTag, foundIn}
+use Rattle.store.specs.Inner.Memory.{view}
+use Rattle.node.specs.Inner.Node.{youngestTag, foundIn}
 use Rattle.node.proofs.Laws.{youngest-below}
 use Rattle.node.proofs.Arrivals.{full-arrives, alone-arrives, never-arrives, merged-arrives}
 use Rattle.node.proofs.Node.arrive.Statement.{statement}

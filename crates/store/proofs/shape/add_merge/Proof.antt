@@ -1,7 +1,7 @@
 -- `add_merge` meets its contract: one more, in its own word.
 use native.Mathlib.Omega.{arith}
 use borrow.Author.Needs.{needs}
-use Rattle.store.specs.Memory.{view}
+use Rattle.store.specs.Inner.Memory.{view}
 use Rattle.store.proofs.Shaped.{merge-added}
 use Rattle.store.proofs.shape.add_merge.Statement.{statement}
 use Rattle.store.proofs.shape.add_merge.Tie as tie

@@ -1,7 +1,7 @@
 -- `merges` meets its contract: a count.
 use mathlib.Core.Path.{refl}
 use borrow.Author.Needs.{needs}
-use Rattle.store.specs.Memory.{view}
+use Rattle.store.specs.Inner.Memory.{view}
 use Rattle.store.proofs.shape.merges.Statement.{statement}
 use Rattle.store.proofs.shape.merges.Tie as tie
 

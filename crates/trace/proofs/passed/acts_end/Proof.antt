@@ -3,7 +3,7 @@ use Prim.Native.Nat.{_-_}
 use native.Mathlib.Omega.{arith}
 use lib.ListN.{length}
 use borrow.Author.Needs.{needs}
-use Rattle.trace.specs.Known.{Passed}
+use Rattle.trace.specs.Inner.Known.{Passed}
 use Rattle.trace.proofs.Runs.{passed-start, passed-header, passed-then, passed-told}
 use Rattle.trace.proofs.passed.acts_end.Statement.{statement}
 use Rattle.trace.proofs.passed.acts_end.Tie as tie

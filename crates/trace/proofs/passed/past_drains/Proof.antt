@@ -3,7 +3,7 @@ use Prim.Native.Nat.{_-_}
 use native.Mathlib.Omega.{arith}
 use lib.ListN.{length}
 use borrow.Author.Tests.{not-false}
-use Rattle.trace.specs.Known.{DrainsPassed}
+use Rattle.trace.specs.Inner.Known.{DrainsPassed}
 use Rattle.trace.proofs.Runs.{drains-start, passed-eight}
 use Rattle.trace.proofs.passed.past_drains.Statement.{statement}
 use Rattle.trace.proofs.passed.past_drains.Tie as tie

@@ -35,7 +35,7 @@ use denote.Triple.Spec.{Meets, tripleOf}
 use denote.Triple.Table.{entered, cited}
 use denote.Triple.Walked.{says, needs, walkOf, ends-at, walked, walk-meets}
 use denote.Triple.Clauses.{ensured, lasts}
-use Rattle.trace.specs.Answers.{HeadRead}
+use Rattle.trace.specs.Inner.Told.{HeadRead}
 use Rattle.trace.specs.declared.reader.Reader.{Reader}
 use Rattle.trace.specs.declared.record.Head.{Head}
 use Rattle.trace.proofs.Held.{ReaderOf, Inside, Read, pair-stay, pair-goes, sliceOf, pairOf, SliceOwns, PairOwns, twice}

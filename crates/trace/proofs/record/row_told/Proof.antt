@@ -5,7 +5,7 @@ use borrow.Author.Tests.{ne-eqb}
 use borrow.Author.Needs.{needs}
 use Rattle.trace.specs.Bytes.{total}
 use Rattle.trace.specs.Table.{shapeRow, wordRow, requestRow, eventRow, drainRow, rows, firstRow, kindRow, bodyRow}
-use Rattle.trace.specs.Known.{listing}
+use Rattle.trace.specs.Inner.Known.{listing}
 use Rattle.trace.proofs.Table.{one-listed}
 use Rattle.trace.proofs.record.row_told.Statement.{statement}
 use Rattle.trace.proofs.record.row_told.Tie as tie

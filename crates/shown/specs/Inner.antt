@@ -1,0 +1,5 @@
+-- What only proofs and the contracts of inner functions need: no statement of a public function rests on it.
+pub mod Network
+pub mod Shown
+pub mod Landing
+pub mod Reached
