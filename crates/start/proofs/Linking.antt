@@ -87,8 +87,8 @@ module _ (x : Network) (v : View) (t : ℕ) (below : t < x .R) (so-far : Linked 
       ∙ position-engine (x .k) (x .engineOf t) (moduleOf (x .k) (x .addressOf t)) (so-far .loaded .ranges .engines t) (module-below (x .k) (x .addressOf t))
 
   module _ (e : ℕ) (engine : e ≡ x .engineOf t) where
-    first-is : firstIn v e ≡ nextOf x e (suc t)
-    first-is = rw (so-far .count-is) (next-given (nextOf x e (suc t)) (x .R) (v .requests 0 e) (next-within x e (suc t) below) (so-far .first e))
+    first-next : firstIn v e ≡ nextOf x e (suc t)
+    first-next = rw (so-far .count-is) (next-given (nextOf x e (suc t)) (x .R) (v .requests 0 e) (next-within x e (suc t) below) (so-far .first e))
 
     linked-at : Linked x (withLinked v t e) t
     linked-at = record {
@@ -104,7 +104,7 @@ module _ (x : Network) (v : View) (t : ℕ) (below : t < x .R) (so-far : Linked 
       count-is = so-far .count-is;
       every-is = so-far .every-is;
       after-is = λ u above within. by-cases (ℕ-discrete u t)
-          (λ (q : u ≡ t). rw q (update-same (v .fixed .after) t (firstIn v e) ∙ first-is ∙ ap (λ (d : ℕ). nextOf x d (suc t)) engine))
+          (λ (q : u ≡ t). rw q (update-same (v .fixed .after) t (firstIn v e) ∙ first-next ∙ ap (λ (d : ℕ). nextOf x d (suc t)) engine))
           (λ (n : u ≢ t). update-other (v .fixed .after) t (firstIn v e) n ∙ so-far .after-is u (omega arith) within);
       first = λ d. by-cases (ℕ-discrete d e)
           (λ (q : d ≡ e).
