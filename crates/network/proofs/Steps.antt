@@ -5,19 +5,15 @@ use mathlib.Core.Logic.{_≢_}
 use mathlib.Core.Bool.{Bool, true, false}
 use mathlib.Core.List.{List}
 use native.Mathlib.Omega.{arith}
-use lib.Dec.{eqb}
 use lib.ListN.{length}
-use borrow.Author.Tests.{eqb-false, lt-ltb, le-ltb}
+use borrow.Author.Tests.{lt-ltb, le-ltb}
+use Rattle.lists.proofs.Tests.{eqb-some}
 use Rattle.event.specs.Event.{Event, levelFits}
 use Rattle.event.proofs.Steps.{issue-level, forward-level, module-level, return-level, collect-level, step-named, level-most}
 use Rattle.store.specs.Inner.Memory.{view}
 use Rattle.shown.specs.Inner.Reached.{restsAt, single}
 use Rattle.shown.proofs.Rests.{rests-moves}
 use Rattle.moves.specs.Inner.Moves.{wordsIn, Ready, ReadyWith, Moves, MovesWith}
-
--- a length that is not tested zero
-filled : (n : ℕ) → eqb n 0 ≡ false → 0 < n
-filled n e = let d : n ≢ 0 = eqb-false n 0 e in omega arith
 
 -- ---- an event that names a step
 pub record Named (m words : List ℕ) (what level position : ℕ) : Type 0 where
@@ -65,10 +61,10 @@ module _ {m words : List ℕ} {what level position : ℕ} (N : Named m words wha
     }
 
     has-request : r ≡ false → what < 3 → 0 < length (view m .requests level position)
-    has-request e h = filled (length (view m .requests level position)) (rw (lt-ltb what 3 h) at (sym rests ∙ e))
+    has-request e h = eqb-some (length (view m .requests level position)) (rw (lt-ltb what 3 h) at (sym rests ∙ e))
 
     has-reply : r ≡ false → 3 ≤ what → 0 < length (view m .replies level position)
-    has-reply e h = filled (length (view m .replies level position)) (rw (le-ltb what 3 h) at (sym rests ∙ e))
+    has-reply e h = eqb-some (length (view m .replies level position)) (rw (le-ltb what 3 h) at (sym rests ∙ e))
 
     pub to-issue : r ≡ false → what ≡ 0 → 0 < length (view m .requests 0 position)
     to-issue e is = rw (level-0 is) at (has-request e (omega (arith, is)))

@@ -1,2 +1,3 @@
--- How a lent slice is filled.
+-- How a lent slice is filled, and what it then holds.
 pub mod Filling
+pub mod Over

@@ -3,7 +3,7 @@ use Prim.Native.Nat.{ℕ, zero, suc, _-_}
 use mathlib.Core.Path.{_≡_, refl, sym, ap, _∙_}
 use mathlib.Core.Logic.{_≢_}
 use mathlib.Core.Bool.{Bool, true, false}
-use mathlib.Core.List.{List, [], _∷_, _++_, map}
+use mathlib.Core.List.{List, [], _∷_, _++_}
 use native.Mathlib.Omega.{arith}
 use lib.Dec.{ltb}
 use lib.ListN.{length}
@@ -24,6 +24,7 @@ use Rattle.shown.specs.Inner.Network.{Network, setup}
 use Rattle.shown.specs.Inner.Shown.{messageOf, replyOf, unissued, tagsAt, shown}
 use Rattle.shown.specs.Inner.Reached.{single, Moved}
 use Rattle.shown.proofs.Events.{issue-is, forward-is, module-is, return-is, collect-is}
+use Rattle.shown.proofs.Rests.{requests-shown, replies-shown}
 
 -- ---- the machine's steps at another position of the row
 module _ (S : Setup) (st : State S) (p q : ℕ) (apart : q ≢ p) where
@@ -88,16 +89,8 @@ module _ (S : Setup) (st : State S) (p q : ℕ) (apart : q ≢ p) where
       go [] = refl
       go (t ∷ rest) = update2-position (st .replies) 0 p rest 0 q apart
 
--- ---- a queue is shown empty where it is, and only there
+-- ---- a queue is shown empty only where it is
 module _ (x : Network) (v : View) (words : ℕ → ℕ) (s p : ℕ) where
-  requests-shown : v .requests s p ≡ [] → shown x v words .requests s p ≡ []
-  unfolding shown
-  requests-shown e = ap (map (messageOf x v)) (go s e)
-    where
-      go : (s : ℕ) → v .requests s p ≡ [] → tagsAt x v s p ≡ []
-      go zero e = rw e
-      go (suc s) e = e
-
   requests-held : shown x v words .requests s p ≡ [] → v .requests s p ≡ []
   unfolding shown
   requests-held e = go s (map-none (messageOf x v) (tagsAt x v s p) e)
@@ -109,10 +102,6 @@ module _ (x : Network) (v : View) (words : ℕ → ℕ) (s p : ℕ) where
       go : (s : ℕ) → tagsAt x v s p ≡ [] → v .requests s p ≡ []
       go zero e = first (v .requests 0 p) e
       go (suc s) e = e
-
-  replies-shown : v .replies s p ≡ [] → shown x v words .replies s p ≡ []
-  unfolding shown
-  replies-shown e = ap (map (replyOf x v)) e
 
   replies-held : shown x v words .replies s p ≡ [] → v .replies s p ≡ []
   unfolding shown

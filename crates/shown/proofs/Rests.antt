@@ -4,6 +4,7 @@ use mathlib.Core.Path.{_≡_, refl, ap}
 use mathlib.Core.Bool.{true}
 use mathlib.Core.List.{[], map}
 use native.Mathlib.Omega.{arith}
+use lib.Dec.{eqb}
 use lib.ListN.{length}
 use borrow.Author.Tests.{eqb-true}
 use Rattle.lists.proofs.Lists.{length-none}
@@ -44,28 +45,35 @@ module _ (x : Network) (v : View) (words : ℕ → ℕ) where
   tags-none zero p e = rw e
   tags-none (suc s) p e = e
 
-  shown-requests : (s p : ℕ) → length (v .requests s p) ≡ 0 → shown x v words .requests s p ≡ []
+  pub requests-shown : (s p : ℕ) → v .requests s p ≡ [] → shown x v words .requests s p ≡ []
   unfolding shown
-  shown-requests s p e = ap (map (messageOf x v)) (tags-none s p (length-none (v .requests s p) e))
+  requests-shown s p e = ap (map (messageOf x v)) (tags-none s p e)
 
-  shown-replies : (s p : ℕ) → length (v .replies s p) ≡ 0 → shown x v words .replies s p ≡ []
+  pub replies-shown : (s p : ℕ) → v .replies s p ≡ [] → shown x v words .replies s p ≡ []
   unfolding shown
-  shown-replies s p e = ap (map (replyOf x v)) (length-none (v .replies s p) e)
+  replies-shown s p e = ap (map (replyOf x v)) e
+
+  -- and so is one that is tested empty
+  shown-requests : (s p : ℕ) → eqb (length (v .requests s p)) 0 ≡ true → shown x v words .requests s p ≡ []
+  shown-requests s p e = requests-shown s p (length-none (v .requests s p) (eqb-true _ _ e))
+
+  shown-replies : (s p : ℕ) → eqb (length (v .replies s p)) 0 ≡ true → shown x v words .replies s p ≡ []
+  shown-replies s p e = replies-shown s p (length-none (v .replies s p) (eqb-true _ _ e))
 
   pub rests-moves : (what level position : ℕ) → levelFits (x .k) what level ≡ true → restsAt v what level position ≡ true →
       Moved x (single what level position) v words v words
   rests-moves what level position fits h = step-named (x .k) what level fits
       (λ e. issue-moves what level position refl refl e (forward-none (setup x) (shown x v words) 0 position
-      (shown-requests 0 position (eqb-true _ _ (rw (e, issue-level (x .k) what level e fits) at h)))))
+      (shown-requests 0 position (rw (e, issue-level (x .k) what level e fits) at h))))
       (λ e. forward-moves what level position refl refl e (forward-none (setup x) (shown x v words) level position
-      (shown-requests level position (eqb-true _ _ (rw e at h)))))
+      (shown-requests level position (rw e at h))))
       (λ e. module-moves what level position refl refl e (module-none (setup x) (shown x v words) position
-      (shown-requests (x .k) position (eqb-true _ _ (rw (e, module-level (x .k) what level e fits) at h)))))
+      (shown-requests (x .k) position (rw (e, module-level (x .k) what level e fits) at h))))
       (λ e. let z : suc (level - 1) ≡ level = omega (arith, return-level (x .k) what level e fits .0) in
       return-moves what level position refl refl e (return-none (setup x) (shown x v words) (level - 1) position
-      (rw z (shown-replies level position (eqb-true _ _ (rw e at h))))))
+      (rw z (shown-replies level position (rw e at h)))))
       (λ e. collect-moves what level position refl refl e (collect-none (setup x) (shown x v words) position
-      (shown-replies 0 position (eqb-true _ _ (rw (e, collect-level (x .k) what level e fits) at h)))))
+      (shown-replies 0 position (rw (e, collect-level (x .k) what level e fits) at h))))
 
 -- ---- positions that rest are passed over
 module _ {x : Network} {v v₁ : View} {words words₁ : ℕ → ℕ} (what level p : ℕ) (fits : levelFits (x .k) what level ≡ true)

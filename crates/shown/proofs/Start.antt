@@ -53,21 +53,21 @@ module _ (x : Network) where
         ∙ ap (map (messageOf x v)) (next-unissued x e 0)
         ∙ rw z (messages-asked e (all-map (λ u h. omega arith) (tags-within (x .R) 0)))
         ∙ ap (askedBy (setup x) e) (tags-all (x .R))
-    start-requests (suc s) p = ap (map (messageOf x v)) (A .no-requests s p)
+    start-requests (suc s) p = ap (map (messageOf x v)) (A .quiet .no-requests s p)
 
     start-answers : (t : ℕ) → answerOf x v t ≡ start (setup x) (λ a. 0) .answers t
     unfolding start
-    start-answers t = rw (A .unanswered t)
+    start-answers t = rw (A .quiet .unanswered t)
 
     pub start-shows : (words : ℕ → ℕ) → shown x v words ≡ start (setup x) words
     unfolding shown start
     start-shows words = λ i. record {
       requests = λ s p. start-requests s p i;
-      waits = λ s p. map (recordOf x v) (A .no-waits s p i);
-      replies = λ s p. map (replyOf x v) (A .no-replies s p i);
+      waits = λ s p. map (recordOf x v) (A .quiet .no-waits s p i);
+      replies = λ s p. map (replyOf x v) (A .quiet .no-replies s p i);
       words = words;
-      order = A .no-order i;
+      order = A .quiet .no-order i;
       answers = λ t. start-answers t i;
-      accesses = A .no-accesses i;
-      merges = A .no-merges i;
+      accesses = A .quiet .no-accesses i;
+      merges = A .quiet .no-merges i;
     }

@@ -8,9 +8,9 @@ use native.Mathlib.Decide.{ℕ-discrete}
 use native.Mathlib.Omega.{arith}
 use lib.Dec.{eqb, ltb}
 use lib.ListN.{length, getD}
-use borrow.Author.Tests.{eqb-false, eq-eqb, ne-eqb, le-ltb}
+use borrow.Author.Tests.{eq-eqb, ne-eqb, le-ltb}
 use Rattle.lists.specs.Choice.{choose}
-use Rattle.lists.proofs.Tests.{by-cases, ltb-cases}
+use Rattle.lists.proofs.Tests.{by-cases, ltb-cases, eqb-some}
 use Rattle.lists.proofs.Tables.{update-same, update-other, update2-same, update2-level, update2-position}
 use Rattle.wiring.specs.Wiring.{moduleOf}
 use Rattle.wiring.specs.Inner.Path.{positionOn}
@@ -19,7 +19,7 @@ use Rattle.view.specs.Inner.View.{View, withFixed, withRequests, shaped, linked
 use Rattle.store.specs.Inner.Layout.{size}
 use Rattle.store.specs.Inner.Memory.{view, Becomes}
 use Rattle.shown.specs.Inner.Network.{Network, nextOf, firstFrom}
-use Rattle.shown.specs.Inner.Reached.{AtStart}
+use Rattle.shown.specs.Inner.Reached.{Quiet, AtStart}
 use Rattle.shown.proofs.Engines.{next-within}
 use Rattle.start.specs.Inner.Linked.{Empty, HasRequests, RequestsLoaded, Started, LinkedTo, firstIn, withLinked}
 
@@ -33,13 +33,7 @@ pub record Linked (x : Network) (v : View) (t : ℕ) : Type 0 where
   pub every-is : (u : ℕ) → v .fixed .every u ≡ ltb u (x .R)
   pub after-is : (u : ℕ) → t ≤ u → u < x .R → v .fixed .after u ≡ nextOf x (x .engineOf u) (suc u)
   pub first : (e : ℕ) → v .requests 0 e ≡ choose (ltb (nextOf x e t) (x .R)) (nextOf x e t ∷ []) []
-  pub unanswered : (u : ℕ) → v .answered u ≡ false
-  pub no-requests : (s p : ℕ) → v .requests (suc s) p ≡ []
-  pub no-replies : (s p : ℕ) → v .replies s p ≡ []
-  pub no-waits : (s p : ℕ) → v .waits s p ≡ []
-  pub no-order : v .order ≡ []
-  pub no-accesses : v .accesses ≡ 0
-  pub no-merges : v .merges ≡ 0
+  pub quiet : Quiet v
   pub no-rounds : v .rounds ≡ 0
 
 -- ---- an engine's next request from t on
@@ -73,13 +67,15 @@ linked-none x v empty loaded = record {
   every-is = λ u. refl;
   after-is = λ u above below. absurd (omega arith);
   first = λ e. let z : ltb (nextOf x e (x .R)) (x .R) ≡ false = rw (next-end x e) (le-ltb (x .R) (x .R) (omega arith)) in empty .no-requests 0 e ∙ rw z refl;
-  unanswered = empty .unanswered;
-  no-requests = λ s p. empty .no-requests (suc s) p;
-  no-replies = empty .no-replies;
-  no-waits = empty .no-waits;
-  no-order = empty .no-order;
-  no-accesses = empty .no-accesses;
-  no-merges = empty .no-merges;
+  quiet = record {
+    unanswered = empty .unanswered;
+    no-requests = λ s p. empty .no-requests (suc s) p;
+    no-replies = empty .no-replies;
+    no-waits = empty .no-waits;
+    no-order = empty .no-order;
+    no-accesses = empty .no-accesses;
+    no-merges = empty .no-merges;
+  };
   no-rounds = empty .no-rounds;
 }
 
@@ -92,8 +88,8 @@ module _ (x : Network) (v : View) (t : ℕ) (below : t < x .R) (so-far : Linked 
       ∙ position-engine (x .k) (x .engineOf t) (moduleOf (x .k) (x .addressOf t)) (so-far .loaded .ranges .engines t) (module-below (x .k) (x .addressOf t))
 
   module _ (e : ℕ) (engine : e ≡ x .engineOf t) where
-    first-is : firstIn v e ≡ nextOf x e (suc t)
-    first-is = rw (so-far .count-is) (next-given (nextOf x e (suc t)) (x .R) (v .requests 0 e) (next-within x e (suc t) below) (so-far .first e))
+    first-next : firstIn v e ≡ nextOf x e (suc t)
+    first-next = rw (so-far .count-is) (next-given (nextOf x e (suc t)) (x .R) (v .requests 0 e) (next-within x e (suc t) below) (so-far .first e))
 
     linked-at : Linked x (withLinked v t e) t
     linked-at = record {
@@ -109,7 +105,7 @@ module _ (x : Network) (v : View) (t : ℕ) (below : t < x .R) (so-far : Linked 
       count-is = so-far .count-is;
       every-is = so-far .every-is;
       after-is = λ u above within. by-cases (ℕ-discrete u t)
-          (λ (q : u ≡ t). rw q (update-same (v .fixed .after) t (firstIn v e) ∙ first-is ∙ ap (λ (d : ℕ). nextOf x d (suc t)) engine))
+          (λ (q : u ≡ t). rw q (update-same (v .fixed .after) t (firstIn v e) ∙ first-next ∙ ap (λ (d : ℕ). nextOf x d (suc t)) engine))
           (λ (n : u ≢ t). update-other (v .fixed .after) t (firstIn v e) n ∙ so-far .after-is u (omega arith) within);
       first = λ d. by-cases (ℕ-discrete d e)
           (λ (q : d ≡ e).
@@ -117,13 +113,15 @@ module _ (x : Network) (v : View) (t : ℕ) (below : t < x .R) (so-far : Linked 
           (λ (n : d ≢ e).
           let other : x .engineOf t ≢ d = λ z. n (sym z ∙ sym engine) in
           rw (next-later x d t below other) (update2-position (v .requests) 0 e _ 0 d n ∙ so-far .first d));
-      unanswered = so-far .unanswered;
-      no-requests = λ s p. let z : suc s ≢ 0 = omega arith in update2-level (v .requests) 0 e _ (suc s) p z ∙ so-far .no-requests s p;
-      no-replies = so-far .no-replies;
-      no-waits = so-far .no-waits;
-      no-order = so-far .no-order;
-      no-accesses = so-far .no-accesses;
-      no-merges = so-far .no-merges;
+      quiet = record {
+        unanswered = so-far .quiet .unanswered;
+        no-requests = λ s p. let z : suc s ≢ 0 = omega arith in update2-level (v .requests) 0 e _ (suc s) p z ∙ so-far .quiet .no-requests s p;
+        no-replies = so-far .quiet .no-replies;
+        no-waits = so-far .quiet .no-waits;
+        no-order = so-far .quiet .no-order;
+        no-accesses = so-far .quiet .no-accesses;
+        no-merges = so-far .quiet .no-merges;
+      };
       no-rounds = so-far .no-rounds;
     }
 
@@ -145,14 +143,8 @@ linked-all x v all = record {
     after-is = λ u within. all .after-is u (omega arith) within;
   };
   asked = all .loaded .asked;
-  unanswered = all .unanswered;
   first = all .first;
-  no-requests = all .no-requests;
-  no-replies = all .no-replies;
-  no-waits = all .no-waits;
-  no-order = all .no-order;
-  no-accesses = all .no-accesses;
-  no-merges = all .no-merges;
+  quiet = all .quiet;
 }
 
 pub loaded-within : {m : List ℕ} {k q w count : ℕ} → RequestsLoaded m k q w count → count ≤ 256
@@ -206,7 +198,7 @@ module _ (v : View) (e : ℕ) {none : Bool} (told : none ≡ eqb (length (v .req
   first-some is = rw (sym told ∙ is)
 
   pub first-there : none ≡ false → 0 < length (v .requests 0 e)
-  first-there is = let some : length (v .requests 0 e) ≢ 0 = eqb-false (length (v .requests 0 e)) 0 (sym told ∙ is) in omega arith
+  first-there is = eqb-some (length (v .requests 0 e)) (sym told ∙ is)
 
 pub link-stored : (v v′ v″ : View) (t e n : ℕ) → e ≡ positionOn (v .fixed .path t) 0 → n ≡ firstIn v e → v′ ≡ withFixed v (linked (v .fixed) t n) →
     v″ ≡ withRequests v′ 0 e (choose (ltb t (v′ .fixed .count)) (t ∷ []) []) →

@@ -22,6 +22,16 @@ restsAt v what level position = choose (ltb what 3) (eqb (length (v .requests le
 abbrev pub single : (what level position : ℕ) → List Event
 single what level position = record { what = what; level = level; position = position } ∷ []
 
+-- above the engines there is nothing, and nothing is answered or counted
+pub record Quiet (v : View) : Type 0 where
+  pub unanswered : (t : ℕ) → v .answered t ≡ false
+  pub no-requests : (s p : ℕ) → v .requests (suc s) p ≡ []
+  pub no-replies : (s p : ℕ) → v .replies s p ≡ []
+  pub no-waits : (s p : ℕ) → v .waits s p ≡ []
+  pub no-order : v .order ≡ []
+  pub no-accesses : v .accesses ≡ 0
+  pub no-merges : v .merges ≡ 0
+
 module _ (x : Network) where
   -- by some events that name steps, from some starting words
   pub record Reached (st : State (setup x)) : Type 0 where
@@ -50,11 +60,5 @@ module _ (x : Network) where
   pub record AtStart (v : View) : Type 0 where
     pub fits : Fits x (v .fixed)
     pub asked : (t : ℕ) → t < x .R → operationIn (v .carried t) ≡ x .askedOf t
-    pub unanswered : (t : ℕ) → v .answered t ≡ false
     pub first : (e : ℕ) → v .requests 0 e ≡ choose (ltb (nextOf x e 0) (x .R)) (nextOf x e 0 ∷ []) []
-    pub no-requests : (s p : ℕ) → v .requests (suc s) p ≡ []
-    pub no-replies : (s p : ℕ) → v .replies s p ≡ []
-    pub no-waits : (s p : ℕ) → v .waits s p ≡ []
-    pub no-order : v .order ≡ []
-    pub no-accesses : v .accesses ≡ 0
-    pub no-merges : v .merges ≡ 0
+    pub quiet : Quiet v
