@@ -1,3 +1,4 @@
+-- `request_fault` meets its contract: each test of the code is one of `requestFits`, in its order.
 use native.Mathlib.Omega.{arith}
 use borrow.Author.Tests.{lt-ltb, le-ltb}
 use borrow.Author.Needs.{needs}
@@ -37,12 +38,28 @@ operands-fit-requires c κs = search needs
 returns-3 : tie.Need-returns-3
 unfolding requestFits orElse
 returns-3 c = let d = c .before .before .before .before .before in
-    simp (lt-ltb _ _ (d .before .before .before .if1 .left), ← (d .before .width .ensures .0), lt-ltb _ _ (d .if2 .left), ← (c .before .before .before .number8 .ensures), ← (c .before .before .number82 .ensures), ← (c .before .operands-fit .ensures), c .if3 .taken)
+    simp (
+      lt-ltb _ _ (d .before .before .before .if1 .left),
+      ← (d .before .width .ensures .0),
+      lt-ltb _ _ (d .if2 .left),
+      ← (c .before .before .before .number8 .ensures),
+      ← (c .before .before .number82 .ensures),
+      ← (c .before .operands-fit .ensures),
+      c .if3 .taken,
+    )
 
 returns-4 : tie.Need-returns-4
 unfolding requestFits orElse
 returns-4 c = let d = c .before .before .before .before .before in
-    simp (lt-ltb _ _ (d .before .before .before .if1 .left), ← (d .before .width .ensures .0), lt-ltb _ _ (d .if2 .left), ← (c .before .before .before .number8 .ensures), ← (c .before .before .number82 .ensures), ← (c .before .operands-fit .ensures), c .if3 .left)
+    simp (
+      lt-ltb _ _ (d .before .before .before .if1 .left),
+      ← (d .before .width .ensures .0),
+      lt-ltb _ _ (d .if2 .left),
+      ← (c .before .before .before .number8 .ensures),
+      ← (c .before .before .number82 .ensures),
+      ← (c .before .operands-fit .ensures),
+      c .if3 .left,
+    )
 
 pub request-fault-spec : {M : Type 1} → statement M
 request-fault-spec =
