@@ -36,7 +36,7 @@ length-trace none = refl
 length-trace (after before x) = omega (arith, length-append (traceOf before) (recordOf x), length-trace before, length-record x)
 
 -- items that are not refused are passed over
-pub check-written : (xs : Items) → Valid xs → AllFitBytes xs → (back : List ℕ) →
+check-written : (xs : Items) → Valid xs → AllFitBytes xs → (back : List ℕ) →
     checkRecords none (records (traceOf xs ++ back)) ≡ checkRecords xs (records back)
 unfolding traceOf checkRecords decide
 check-written none v fit back = refl
@@ -92,7 +92,7 @@ accepted-is s xs are e = go (ltb 65536 (length s)) refl e
     go true f h = clash (cc)
     go false f h = accepted-after (records s) none xs s s refl are refl (ltb-false 65536 (length s) f) valid-none none-fit h
 
-pub is-accepted : (s : List ℕ) (xs : Items) → Accepted s xs → check s ≡ accepted xs
+is-accepted : (s : List ℕ) (xs : Items) → Accepted s xs → check s ≡ accepted xs
 is-accepted s none a = absurd (a .some refl)
 is-accepted s (after before x) a =
     rw (a .bytes-are) (accepts before x (a .valid) (a .fit) (rw (a .bytes-are) at (a .short)))

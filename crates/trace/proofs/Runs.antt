@@ -106,7 +106,7 @@ unfolding fault mayFollow orElse partsOf ownFault
 event-clean before e h names = rw (h, names)
 
 module _ {s : List ℕ} {k at end : ℕ} (are : AreBytes s) (p : Passed s k at end) where
-  pub passed-drain : end + 6 ≤ length s → number 4 s end ≡ 327682 → Passed s k at (end + 6)
+  passed-drain : end + 6 ≤ length s → number 4 s end ≡ 327682 → Passed s k at (end + 6)
   unfolding rows firstRow bodyRow total partsOf recordSize
   passed-drain inside header =
       let body = take 2 (drop (end + 4) s) in

@@ -70,7 +70,7 @@ module _ {b : List ℕ} (are : AreBytes b) (kind : ℕ) (is : isRow (bodyRow kin
       ap (λ (p : Parts). fieldBytes (p .row .widths) (p .fields)) (parts-item kind b is)
       ∙ (fields-again are (row .widths) 0 (omega (arith, size-is)) ∙ take-all (bodySize row) b (omega (arith, size-is)))
 
-  pub fits-item : FitsBytes (item kind b)
+  fits-item : FitsBytes (item kind b)
   fits-item = subst (λ (p : Parts). FieldsFit (p .row .widths) (p .fields)) (sym (parts-item kind b is)) (fields-fit are (bodyRow kind (length b) .widths) 0)
 
 -- a whole record is written again
