@@ -72,7 +72,7 @@ module _ (base : ℕ) (two : 2 ≤ base) where
   numeral-some = numeral-ind (λ n l. 1 ≤ length l) (λ n h. omega arith) (λ n h s. rw length-append (omega arith))
 
   -- a number below base ^ k has at most k digits
-  pub numeral-length : (k n : ℕ) → n < base ^ suc k → length (numeral base n) ≤ suc k
+  numeral-length : (k n : ℕ) → n < base ^ suc k → length (numeral base n) ≤ suc k
   numeral-length zero n h = rw (numeral-one n (rw (pow-suc, pow-zero, one-mul) at h)) (omega arith)
   numeral-length (suc k) n h =
       by-cases (decLt n base)
@@ -103,9 +103,6 @@ module _ (base : ℕ) (two : 2 ≤ base) where
   numeral-value =
       numeral-ind (λ n l. valueFrom base 0 l ≡ n) (λ n h. omega arith)
       (λ n h s. rw (valueFrom-append base 0, s) (omega (arith, div-add-mod' n base)))
-
-  pub numeral-injective : (m n : ℕ) → numeral base m ≡ numeral base n → m ≡ n
-  numeral-injective m n e = sym (numeral-value m) ∙ ap (valueIn base) e ∙ numeral-value n
 
 -- 64 bits have at most 20 digits
 pub decimal-word : (n : ℕ) → n < 2 ^ 64 → length (decimal n) ≤ 20

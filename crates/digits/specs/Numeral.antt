@@ -30,9 +30,6 @@ numeral base n = numeralIn base (suc n) n
 abbrev pub decimal : ℕ → List ℕ
 decimal = numeral 10
 
-abbrev pub binary : ℕ → List ℕ
-binary = numeral 2
-
 -- the number that digits spell, behind those that spell n
 unfoldable pub valueFrom : ℕ → ℕ → List ℕ → ℕ
 valueFrom base n [] = n
