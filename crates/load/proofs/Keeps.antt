@@ -22,7 +22,8 @@ use Rattle.trace.specs.Refusals.{fault}
 use Rattle.trace.specs.Inner.Known.{movedPast, shaped, asked, Same}
 use Rattle.trace.specs.declared.progress.Progress.{Progress}
 use Rattle.trace.proofs.Contents.{start-words-more}
-use Rattle.trace.proofs.Ranges.{act-section, shape-in-range, shape-first}
+use Rattle.trace.proofs.Table.{word-section, request-section, act-section}
+use Rattle.trace.proofs.Ranges.{shape-in-range, shape-first}
 use Rattle.trace.proofs.Known.{act-same, known-same}
 use Rattle.load.specs.Inner.Machine.{RequestsHeld}
 use Rattle.load.specs.Inner.Loop.{LoadedSoFar, Room, RequestPut, Keeps}
@@ -75,24 +76,24 @@ module _ {p : Progress} {marks words m : List ℕ} (room : Room p marks words) w
 
   pub keeps-word : (w : Word) → w .address < 256 →
       Keeps (word w) p marks words m (movedPast p (word w)) (set marks (w .address) 1) (set words (w .address) (w .value)) m
-  unfolding recordSize partsOf total size lastSection contents add actsAt
+  unfolding recordSize size lastSection contents add actsAt
   keeps-word w low = record {
     at-is = omega arith;
     room = record {
-      acts-at-low = omega arith;
+      acts-at-low = rw (word-section w) (omega (arith, room .acts-at-low));
       requests-low = omega arith;
       marks-size = length-set marks (w .address) 1 ∙ room .marks-size;
       words-size = length-set words (w .address) (w .value) ∙ room .words-size;
     };
     known = λ before known f. record {
-      at-is = omega arith;
+      at-is = omega (arith, known .at-is);
       section-is = refl;
       k-is = known .k-is;
       k-low = known .k-low;
       q-is = known .q-is;
       w-is = known .w-is;
       requests-is = omega arith;
-      acts-at-is = omega arith;
+      acts-at-is = rw (word-section w) (omega (arith, known .acts-at-is));
       marks-are = marked marks (wordsGiven before) w (omega arith) (known .marks-are);
     };
     loaded = λ before known loaded f. record {
@@ -104,24 +105,24 @@ module _ {p : Progress} {marks words m : List ℕ} (room : Room p marks words) w
 
   pub keeps-request : (r : Request) → p .requests < 256 → (m′ : List ℕ) → RequestPut (p .k) r (p .requests) m m′ →
       Keeps (request r) p marks words m (asked (movedPast p (request r))) marks words m′
-  unfolding recordSize partsOf total size lastSection contents add actsAt
+  unfolding recordSize size lastSection contents add actsAt
   keeps-request r few m′ put = record {
     at-is = omega arith;
     room = record {
-      acts-at-low = omega arith;
+      acts-at-low = rw (request-section r) (omega (arith, room .acts-at-low));
       requests-low = omega arith;
       marks-size = room .marks-size;
       words-size = room .words-size;
     };
     known = λ before known f. record {
-      at-is = omega arith;
+      at-is = omega (arith, known .at-is);
       section-is = refl;
       k-is = known .k-is;
       k-low = known .k-low;
       q-is = known .q-is;
       w-is = known .w-is;
       requests-is = omega (arith, length-append (requestsOf before) (r ∷ []));
-      acts-at-is = omega arith;
+      acts-at-is = rw (request-section r) (omega (arith, known .acts-at-is));
       marks-are = known .marks-are;
     };
     loaded = λ before known loaded f. record {

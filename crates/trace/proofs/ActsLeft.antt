@@ -1,22 +1,23 @@
 -- The acts of an accepted trace, one by one: where they begin, what stands at an offset, and the next offset.
 use Prim.Native.Nat.{ℕ, zero, suc, _+_, _-_, _%_, _≤_, _<_}
-use mathlib.Core.Path.{_≡_, refl, ap, sym, _∙_}
-use mathlib.Core.Logic.{_≢_}
+use mathlib.Core.Path.{_≡_, refl, ap, sym, _∙_, subst}
+use mathlib.Core.Logic.{_≢_, ⊎-elim}
 use mathlib.Core.List.{List, [], _∷_, _++_, append-assoc, append-nil}
 use native.Mathlib.Omega.{arith}
 use native.Mathlib.Nat.{add-zero, add-assoc}
 use lib.ListN.{length, getD, take, drop, length-append, length-drop}
 use lib.Seq.{drop-drop, drop-at, drop-length, drop-append-le, getD-drop}
+use borrow.Author.Tests.{lt-ltb}
 use Rattle.lists.specs.Search.{All, nil, cons}
 use Rattle.lists.proofs.Tests.{clash}
 use Rattle.lists.proofs.Every.{all-more}
 use Rattle.event.specs.Event.{Event, Act}
 use Rattle.trace.specs.Bytes.{AreBytes, number, total}
 use Rattle.trace.specs.Inner.Write.{bytes, fieldBytes}
-use Rattle.trace.specs.Item.{Item, shape, word, request, act, Items, none, after}
+use Rattle.trace.specs.Item.{Item, act, Items, none, after}
 use Rattle.trace.specs.Table.{partsOf, section, recordSize, size}
 use Rattle.trace.specs.Inner.Write.{recordOf, traceOf}
-use Rattle.trace.specs.Inner.Fits.{AllFitBytes, after-fit}
+use Rattle.trace.specs.Inner.Fits.{FitsBytes, AllFitBytes, after-fit}
 use Rattle.trace.specs.Contents.{contents, add, actsOf, lastSection, actsAt}
 use Rattle.trace.specs.Refusals.{fault}
 use Rattle.trace.specs.Check.{accepted, check}
@@ -25,9 +26,10 @@ use Rattle.trace.specs.Inner.Ranges.{EventBytes}
 use Rattle.trace.specs.Inner.Acts.{actSize, ActFits, actsSize, actOffset, actsWritten, Left, due}
 use Rattle.trace.specs.declared.acts.Due.the-variants.{End, Event as EventDue, Drain}
 use Rattle.trace.proofs.Numbers.{number-drop, number-bytes}
+use Rattle.trace.proofs.Table.{act-section, act-or-earlier}
 use Rattle.trace.proofs.Written.{length-record}
 use Rattle.trace.proofs.Accept.{accepted-is, length-trace}
-use Rattle.trace.proofs.Ranges.{act-section, event-bytes, drain-bytes, in-order, follow-low}
+use Rattle.trace.proofs.Ranges.{event-bytes, drain-bytes, in-order, follow-low}
 
 acts-written-more : (front : List Act) (a : Act) → actsWritten (front ++ (a ∷ [])) ≡ actsWritten front ++ recordOf (act a)
 unfolding actsWritten
@@ -40,15 +42,12 @@ low-before before x f low = follow-low (lastSection before) (section x) (in-orde
 
 -- up to the first act there is none
 no-acts : (xs : Items) → Valid xs → lastSection xs < 4 → (actsAt xs ≡ size xs) × (actsOf xs ≡ [])
-unfolding actsAt size lastSection contents add partsOf
+unfolding actsAt size lastSection contents
 no-acts none v low = (refl, refl)
-no-acts (after before (shape s)) (valid-after v f) low =
-    let i = no-acts before v (low-before before (shape s) f low) in (ap (λ (n : ℕ). n + recordSize (shape s)) (i .0), i .1)
-no-acts (after before (word w)) (valid-after v f) low =
-    let i = no-acts before v (low-before before (word w) f low) in (ap (λ (n : ℕ). n + recordSize (word w)) (i .0), i .1)
-no-acts (after before (request r)) (valid-after v f) low =
-    let i = no-acts before v (low-before before (request r) f low) in (ap (λ (n : ℕ). n + recordSize (request r)) (i .0), i .1)
-no-acts (after before (act a)) v low = let z : ⊥ = omega (arith, act-section a) in elim z [ ]
+no-acts (after before x) (valid-after v f) low =
+    let i = no-acts before v (low-before before x f low) in
+    ⊎-elim (λ h. absurd (omega (arith, ap section (h .1), act-section (h .0))))
+    (λ e. (rw (lt-ltb (section x) 4 low) (ap (λ (n : ℕ). n + recordSize x) (i .0)), e .adds-none (contents before) ∙ i .1)) (act-or-earlier x)
 
 -- from the first act on there is nothing else
 record Split (xs : Items) : Type 0 where
@@ -71,20 +70,19 @@ split-act before a i same more = record {
 }
 
 split-acts : (xs : Items) → Valid xs → Split xs
-unfolding actsAt lastSection contents add partsOf traceOf actsWritten
+unfolding actsAt lastSection contents add traceOf actsWritten
 split-acts none v = record { inside = omega arith; acts-are = refl }
-split-acts (after before (shape s)) v = split-low (after before (shape s)) v (omega arith)
-split-acts (after before (word w)) v = split-low (after before (word w)) v (omega arith)
-split-acts (after before (request r)) v = split-low (after before (request r)) v (omega arith)
-split-acts (after before (act a)) (valid-after v f) = split-act before a (split-acts before v) (rw (act-section a)) refl
+split-acts (after before x) (valid-after v f) =
+    ⊎-elim
+    (λ h. rw (h .1) (split-act before (h .0) (split-acts before v) (rw (act-section (h .0))) refl))
+    (λ e. split-low (after before x) (valid-after v f) (e .low)) (act-or-earlier x)
 
 acts-fit : (xs : Items) → AllFitBytes xs → All ActFits (actsOf xs)
 unfolding contents add
 acts-fit none fit = nil
-acts-fit (after before (shape s)) (after-fit fit f) = acts-fit before fit
-acts-fit (after before (word w)) (after-fit fit f) = acts-fit before fit
-acts-fit (after before (request r)) (after-fit fit f) = acts-fit before fit
-acts-fit (after before (act a)) (after-fit fit f) = all-more (acts-fit before fit) f
+acts-fit (after before x) (after-fit fit f) =
+    ⊎-elim (λ h. rw (h .1) (all-more (acts-fit before fit) (subst FitsBytes (h .1) f)))
+    (λ e. rw (e .adds-none (contents before)) (acts-fit before fit)) (act-or-earlier x)
 
 -- at its first act all acts of an accepted trace are left
 pub left-start : (s : List ℕ) (xs : Items) → AreBytes s → check s ≡ accepted xs → Left s (actsAt xs) (actsOf xs)

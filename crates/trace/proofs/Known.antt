@@ -10,7 +10,7 @@ use Rattle.trace.specs.Table.{size}
 use Rattle.trace.specs.Contents.{contents, add, given, lastSection, actsAt}
 use Rattle.trace.specs.Inner.Known.{Known, Same}
 use Rattle.trace.specs.declared.progress.Progress.{Progress}
-use Rattle.trace.proofs.Ranges.{act-section}
+use Rattle.trace.proofs.Table.{act-section}
 
 -- items with an act behind them say what they said, but for the acts
 pub act-same : (before : Items) (a : Act) → Same before (after before (act a))

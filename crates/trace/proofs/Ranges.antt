@@ -25,7 +25,7 @@ use Rattle.trace.specs.Check.{accepted, check}
 use Rattle.trace.specs.Inner.Fits.{Valid, valid-after}
 use Rattle.trace.specs.Inner.Ranges.{WordBytes, RequestBytes, EventBytes, ShapeIn, RequestIn, ActIn, InRange}
 use Rattle.trace.proofs.Tests.{unless-zero, or-else-zero}
-use Rattle.trace.proofs.Table.{item-right}
+use Rattle.trace.proofs.Table.{item-right, word-section, request-section, act-section}
 use Rattle.trace.proofs.Accept.{Accepted, accepted-is}
 
 -- an item that is not refused may follow, and has no fault of its own
@@ -68,12 +68,6 @@ section-some x e = is-section (item-right x .row-right .is-row) e
   where
     is-section : {n : ℕ} → not (eqb n 0) ≡ true → n ≡ 0 → ⊥
     is-section {n} h e = let z : not (eqb 0 0) ≡ true = rw e at h in clash (cc)
-
--- an act stands in the last section
-pub act-section : (a : Act) → section (act a) ≡ 4
-unfolding partsOf
-act-section (event e) = refl
-act-section (drain rounds) = refl
 
 act-behind : (a : Act) → section (act a) ≢ 1
 act-behind a e = omega (arith, act-section a)
@@ -163,7 +157,7 @@ record Within (xs : Items) : Type 0 where
   acts-in : All (ActIn (shapeOf xs .k)) (actsOf xs)
 
 within : (xs : Items) → Valid xs → AllFitBytes xs → Within xs
-unfolding contents add lastSection partsOf
+unfolding contents add lastSection
 within none v fit = record { shaped = λ n. absurd (n refl); words-in = nil; few = omega arith; requests-in = nil; acts-in = nil }
 within (after before (shape s)) (valid-after v f) (after-fit fit fits) =
     let i = within before v fit in
@@ -178,7 +172,7 @@ within (after before (shape s)) (valid-after v f) (after-fit fit fits) =
 within (after before (word w)) (valid-after v f) (after-fit fit fits) =
     let i = within before v fit in
     record {
-      shaped = λ n. i .shaped (has-shape before (word w) f (λ e. omega arith));
+      shaped = λ n. i .shaped (has-shape before (word w) f (λ e. omega (arith, word-section w)));
       words-in = all-more (i .words-in) (word-bytes w fits);
       few = i .few;
       requests-in = i .requests-in;
@@ -187,7 +181,7 @@ within (after before (word w)) (valid-after v f) (after-fit fit fits) =
 within (after before (request r)) (valid-after v f) (after-fit fit fits) =
     let i = within before v fit in
     record {
-      shaped = λ n. i .shaped (has-shape before (request r) f (λ e. omega arith));
+      shaped = λ n. i .shaped (has-shape before (request r) f (λ e. omega (arith, request-section r)));
       words-in = i .words-in;
       few = omega (arith, requests-few before r f, length-append (requestsOf before) (r ∷ []));
       requests-in = all-more (i .requests-in) (request-in before r (request-bytes r fits) f);

@@ -22,10 +22,9 @@ use Rattle.trace.specs.Inner.Acts.{actSize}
 use Rattle.trace.specs.Inner.Known.{eventIn, Same, Passed, DrainsPassed, FourDrains}
 use Rattle.trace.specs.Inner.Masked.{Mask, Steps, TellsEvent}
 use Rattle.trace.proofs.Numbers.{number-drop, number-join, number-below}
-use Rattle.trace.proofs.Table.{row-told, row-sizes, says-event, says-drain}
+use Rattle.trace.proofs.Table.{row-told, row-sizes, act-section, says-event, says-drain}
 use Rattle.trace.proofs.Records.{Whole, is-whole, body-size, records-whole}
 use Rattle.trace.proofs.Events.{header-of, event-stands}
-use Rattle.trace.proofs.Ranges.{act-section}
 use Rattle.trace.proofs.Known.{act-same}
 
 -- acts, one by one

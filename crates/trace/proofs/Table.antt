@@ -1,7 +1,7 @@
 -- The table of records: each row is told by its kind and length, and making an item of its fields is the inverse of taking it apart.
 use Prim.Native.Nat.{ℕ, zero, suc, _+_, _<_}
-use mathlib.Core.Path.{_≡_, refl, ap, sym, _∙_}
-use mathlib.Core.Logic.{_≢_}
+use mathlib.Core.Path.{_≡_, refl, ap, sym, _∙_, subst}
+use mathlib.Core.Logic.{_≢_, _⊎_, inl, inr, ⊎-elim}
 use mathlib.Core.Bool.{Bool, true, false}
 use mathlib.Core.List.{List, [], _∷_}
 use native.Mathlib.Omega.{arith}
@@ -13,8 +13,9 @@ use Rattle.lists.specs.Search.{All, nil, cons}
 use Rattle.lists.proofs.Tests.{both-true, clash}
 use Rattle.event.specs.Event.{Act, event, drain}
 use Rattle.trace.specs.Bytes.{number, fieldsIn, total}
-use Rattle.trace.specs.Item.{Item, shape, word, request, act}
+use Rattle.trace.specs.Item.{Word, Request, Item, shape, word, request, act}
 use Rattle.trace.specs.Table.{Row, shapeRow, wordRow, requestRow, eventRow, drainRow, rows, bodySize, noRow, isRow, firstRow, kindRow, bodyRow, item, Parts, partsOf, rowOf, section, recordSize}
+use Rattle.trace.specs.Contents.{Contents, add}
 use Rattle.trace.specs.Inner.Known.{shapeIn, wordIn, requestIn, eventIn, Bodied, moved, movedPast}
 use Rattle.trace.specs.declared.progress.Progress.{Progress}
 use Rattle.trace.specs.declared.record.Listed.the-variants.{NoLength, In}
@@ -53,43 +54,18 @@ gathered (suc n) (x ∷ f) h = ap (λ (l : List ℕ). x ∷ l) (gather-behind n 
 abbrev with-fields : (r : Row) (n : ℕ) (f : List ℕ) → length f ≡ n → _≡_ {A = Parts} (record { row = r; fields = gather n 0 f }) (record { row = r; fields = f })
 with-fields r n f long = ap (λ (l : List ℕ). record { row = r; fields = l }) (gathered n f long)
 
-shape-right : RowRight shapeRow
-unfolding rows kindRow bodyRow firstRow total partsOf gather
-shape-right = record { sizes = refl; is-row = refl; found = refl; back = with-fields shapeRow 3 }
-
-word-right : RowRight wordRow
-unfolding rows kindRow bodyRow firstRow total partsOf gather
-word-right = record { sizes = refl; is-row = refl; found = refl; back = with-fields wordRow 2 }
-
-request-right : RowRight requestRow
-unfolding rows kindRow bodyRow firstRow total partsOf gather
-request-right = record { sizes = refl; is-row = refl; found = refl; back = with-fields requestRow 5 }
-
-event-right : RowRight eventRow
-unfolding rows kindRow bodyRow firstRow total partsOf gather
-event-right = record { sizes = refl; is-row = refl; found = refl; back = with-fields eventRow 3 }
-
-drain-right : RowRight drainRow
-unfolding rows kindRow bodyRow firstRow total partsOf gather
-drain-right = record { sizes = refl; is-row = refl; found = refl; back = with-fields drainRow 1 }
+right : (r : Row) → sound r ≡ true → isRow r ≡ true → bodyRow (r .kind) (bodySize r) ≡ r →
+    ((f : List ℕ) → length f ≡ length (r .widths) → partsOf (r .make f) ≡ record { row = r; fields = f }) → RowRight r
+right r sizes is-row found back = record { sizes = sizes; is-row = is-row; found = found; back = back }
 
 rows-right : All RowRight rows
-unfolding rows
-rows-right = cons shape-right (cons word-right (cons request-right (cons event-right (cons drain-right nil))))
-
--- ---- each item
-pub record ItemRight (x : Item) : Type 0 where
-  pub row-right : RowRight (rowOf x)
-  pub many : length (partsOf x .fields) ≡ length (rowOf x .widths)
-  pub made : rowOf x .make (partsOf x .fields) ≡ x
-
-pub item-right : (x : Item) → ItemRight x
-unfolding partsOf
-item-right (shape s) = record { row-right = shape-right; many = refl; made = refl }
-item-right (word w) = record { row-right = word-right; many = refl; made = refl }
-item-right (request r) = record { row-right = request-right; many = refl; made = refl }
-item-right (act (event e)) = record { row-right = event-right; many = refl; made = refl }
-item-right (act (drain rounds)) = record { row-right = drain-right; many = refl; made = refl }
+unfolding rows kindRow bodyRow firstRow total partsOf gather
+rows-right =
+    cons (right shapeRow refl refl refl (with-fields shapeRow 3))
+    (cons (right wordRow refl refl refl (with-fields wordRow 2))
+    (cons (right requestRow refl refl refl (with-fields requestRow 5))
+    (cons (right eventRow refl refl refl (with-fields eventRow 3))
+    (cons (right drainRow refl refl refl (with-fields drainRow 1)) nil))))
 
 -- ---- what follows for any row that is found
 no-row : {G : Type 0} → isRow noRow ≡ true → G
@@ -105,6 +81,16 @@ first-right {P} test (cons {x = r} {xs = rs} p ps) is = go (first-right test ps)
     go on true e h = (p, e)
     go on false e h = on h
 
+-- what a test says of each row
+every : (Row → Bool) → List Row → Bool
+every test [] = true
+every test (r ∷ rs) = both (test r) (every test rs)
+
+every-all : (test : Row → Bool) (rs : List Row) → every test rs ≡ true → All (λ (r : Row). test r ≡ true) rs
+unfolding every
+every-all test [] h = nil
+every-all test (r ∷ rs) h = let p = both-true (test r) (every test rs) h in cons (p .0) (every-all test rs (p .1))
+
 -- the row of a body: right, of its kind, and of its length
 pub record Told (kind len : ℕ) : Type 0 where
   pub right : RowRight (bodyRow kind len)
@@ -117,6 +103,26 @@ row-told kind len is =
     let found = first-right (λ r. both (eqb kind (r .kind)) (eqb len (bodySize r))) rows-right is in
     let tests = both-true (eqb kind (bodyRow kind len .kind)) (eqb len (bodySize (bodyRow kind len))) (found .1) in
     record { right = found .0; kind-is = eqb-true kind _ (tests .0); size-is = eqb-true len _ (tests .1) }
+
+-- ---- each item
+pub record ItemRight (x : Item) : Type 0 where
+  pub row-right : RowRight (rowOf x)
+  pub many : length (partsOf x .fields) ≡ length (rowOf x .widths)
+  pub made : rowOf x .make (partsOf x .fields) ≡ x
+
+-- where its row is the one that is found by kind and length
+in-table : (x : Item) → bodyRow (rowOf x .kind) (bodySize (rowOf x)) ≡ rowOf x → isRow (rowOf x) ≡ true → length (partsOf x .fields) ≡ length (rowOf x .widths) →
+    rowOf x .make (partsOf x .fields) ≡ x → ItemRight x
+in-table x found is many made =
+    record { row-right = subst RowRight found (row-told (rowOf x .kind) (bodySize (rowOf x)) (rw found is) .right); many = many; made = made }
+
+pub item-right : (x : Item) → ItemRight x
+unfolding rows bodyRow firstRow total partsOf
+item-right (shape s) = in-table (shape s) refl refl refl refl
+item-right (word w) = in-table (word w) refl refl refl refl
+item-right (request r) = in-table (request r) refl refl refl refl
+item-right (act (event e)) = in-table (act (event e)) refl refl refl refl
+item-right (act (drain rounds)) = in-table (act (drain rounds)) refl refl refl refl
 
 -- what a body says, by its row
 pub item-is : (kind : ℕ) (b : List ℕ) {r : Row} → bodyRow kind (length b) ≡ r → item kind b ≡ r .make (fieldsIn (r .widths) b 0)
@@ -131,6 +137,9 @@ parts-item kind b is = row-told kind (length b) is .right .back _ (length-fields
 
 pub row-item : (kind : ℕ) (b : List ℕ) → isRow (bodyRow kind (length b)) ≡ true → rowOf (item kind b) ≡ bodyRow kind (length b)
 row-item kind b is = ap (λ (p : Parts). p .row) (parts-item kind b is)
+
+pub kind-item : (kind : ℕ) (b : List ℕ) → isRow (bodyRow kind (length b)) ≡ true → rowOf (item kind b) .kind ≡ kind
+kind-item kind b is = ap (λ (r : Row). r .kind) (row-item kind b is) ∙ sym (row-told kind (length b) is .kind-is)
 
 pub section-item : {kind n : ℕ} {b : List ℕ} → Bodied kind n b → section (item kind b) ≡ n
 section-item {kind} {n} {b} bodied = ap (λ (r : Row). r .section) (row-item kind b (bodied .right)) ∙ sym (bodied .section-is)
@@ -207,29 +216,46 @@ module _ {kind : ℕ} (b : List ℕ) where
       let long : length b ≡ 2 = one-length drainRow (eqb (length b) 2) refl (rw five at is) in
       record { long = long; is = rw five (item-is 5 b (ap (bodyRow 5) long)) }
 
-  -- the last kind of the table
-  pub last-kind : kind ≢ 1 → kind ≢ 2 → kind ≢ 3 → kind ≢ 4 → isRow (bodyRow kind (length b)) ≡ true → kind ≡ 5
-  unfolding rows firstRow bodyRow
-  last-kind n₁ n₂ n₃ n₄ is =
-      go (eqb kind 5) refl (simp (ne-eqb kind 1 n₁, ne-eqb kind 2 n₂, ne-eqb kind 3 n₃, ne-eqb kind 4 n₄) at is)
-    where
-      go : (test : Bool) → eqb kind 5 ≡ test → isRow (choose (both test (eqb (length b) (bodySize drainRow))) drainRow noRow) ≡ true → kind ≡ 5
-      go true e h = eqb-true kind 5 e
-      go false e h = no-row h
+-- ---- where items stand, whatever their row
+pub word-section : (w : Word) → section (word w) ≡ 2
+unfolding partsOf
+word-section w = refl
 
--- a kind that is none of the first three is an act's
+pub request-section : (r : Request) → section (request r) ≡ 3
+unfolding partsOf
+request-section r = refl
+
+pub act-section : (a : Act) → section (act a) ≡ 4
+unfolding partsOf
+act-section (event e) = refl
+act-section (drain rounds) = refl
+
+-- an item is an act, or it stands in a section before them and adds none
 abbrev pub IsAct : Item → Type 0
 IsAct x = (a : Act) × (x ≡ act a)
 
-acts-last : All (λ (r : Row). (f : List ℕ) → r .kind ≢ 1 → r .kind ≢ 2 → r .kind ≢ 3 → IsAct (r .make f)) rows
-unfolding rows
-acts-last =
-    cons (λ f n₁ n₂ n₃. absurd (n₁ refl)) (cons (λ f n₁ n₂ n₃. absurd (n₂ refl)) (cons (λ f n₁ n₂ n₃. absurd (n₃ refl))
-    (cons (λ f n₁ n₂ n₃. (event _, refl)) (cons (λ f n₁ n₂ n₃. (drain _, refl)) nil))))
+pub record Earlier (x : Item) : Type 0 where
+  pub low : section x < 4
+  pub adds-none : (c : Contents) → add c x .acts ≡ c .acts
+
+pub act-or-earlier : (x : Item) → IsAct x ⊎ Earlier x
+unfolding partsOf add
+act-or-earlier (shape s) = inr (record { low = omega arith; adds-none = λ c. refl })
+act-or-earlier (word w) = inr (record { low = omega (arith, word-section w); adds-none = λ c. refl })
+act-or-earlier (request r) = inr (record { low = omega (arith, request-section r); adds-none = λ c. refl })
+act-or-earlier (act a) = inl (a, refl)
+
+-- a row that is of none of the first three kinds is an act's
+abbrev ofActs : Row → Bool
+ofActs r = choose (eqb (r .kind) 1) true (choose (eqb (r .kind) 2) true (choose (eqb (r .kind) 3) true (eqb (r .section) 4)))
+
+of-acts : (r : Row) → ofActs r ≡ true → r .kind ≢ 1 → r .kind ≢ 2 → r .kind ≢ 3 → r .section ≡ 4
+of-acts r h n₁ n₂ n₃ = eqb-true (r .section) 4 (simp (ne-eqb (r .kind) 1 n₁, ne-eqb (r .kind) 2 n₂, ne-eqb (r .kind) 3 n₃) at h)
 
 pub says-act : {kind : ℕ} (b : List ℕ) → kind ≢ 1 → kind ≢ 2 → kind ≢ 3 → isRow (bodyRow kind (length b)) ≡ true → IsAct (item kind b)
-unfolding item bodyRow
+unfolding rows bodyRow every
 says-act {kind} b n₁ n₂ n₃ is =
     let kind-is = row-told kind (length b) is .kind-is in
-    let found = first-right (λ r. both (eqb kind (r .kind)) (eqb (length b) (bodySize r))) acts-last is in
-    found .0 _ (λ e. n₁ (kind-is ∙ e)) (λ e. n₂ (kind-is ∙ e)) (λ e. n₃ (kind-is ∙ e))
+    let test = first-right (λ r. both (eqb kind (r .kind)) (eqb (length b) (bodySize r))) (every-all ofActs rows refl) is .0 in
+    let last = of-acts (bodyRow kind (length b)) test (λ e. n₁ (kind-is ∙ e)) (λ e. n₂ (kind-is ∙ e)) (λ e. n₃ (kind-is ∙ e)) in
+    ⊎-elim (λ i. i) (λ x. absurd (omega (arith, x .low, ap (λ (r : Row). r .section) (row-item kind b is), last))) (act-or-earlier (item kind b))

@@ -11,13 +11,13 @@ use Rattle.trace.specs.Bytes.{AreBytes, fieldsIn}
 use Rattle.trace.specs.Inner.Write.{bytes, fieldBytes}
 use Rattle.trace.specs.Inner.Fits.{FieldsFit}
 use Rattle.trace.specs.Item.{Item}
-use Rattle.trace.specs.Table.{Row, bodySize, isRow, bodyRow, item, Parts, partsOf, rowOf, recordSize}
+use Rattle.trace.specs.Table.{bodySize, isRow, bodyRow, item, Parts, partsOf, rowOf, recordSize}
 use Rattle.trace.specs.Inner.Write.{recordOf}
 use Rattle.trace.specs.Inner.Fits.{FitsBytes}
 use Rattle.trace.specs.Records.{Split, nothing, faulty, whole, split, Records, next, divided, records}
 use Rattle.trace.proofs.Numbers.{bytes-drop, bytes-take, bytes-number, number-bytes}
 use Rattle.trace.proofs.Fields.{length-field-bytes, fields-written, fields-fit, fields-again}
-use Rattle.trace.proofs.Table.{item-right, row-told, row-sizes, item-is, parts-item}
+use Rattle.trace.proofs.Table.{item-right, row-told, row-sizes, item-is, parts-item, kind-item, body-item-size}
 use Rattle.trace.proofs.Records.{records-divided, records-whole, Whole, whole-is, is-whole}
 
 -- the body of an item has the size that the table says
@@ -78,15 +78,13 @@ whole-written : {s : List ℕ} {kind : ℕ} {b : List ℕ} → AreBytes s → Ar
 unfolding recordOf
 whole-written {s} {kind} {b} are are-b w =
     let n = length b in
-    let told = row-told kind n (w .right) in
-    let row-is : rowOf (item kind b) ≡ bodyRow kind n = ap (λ (p : Parts). p .row) (parts-item kind b (w .right)) in
     let size-bytes : bytes 2 n ≡ take 2 s = ap (bytes 2) (sym (w .size-is)) ∙ bytes-number are 2 0 (omega (arith, w .fits)) in
     let kind-bytes : bytes 2 kind ≡ take 2 (drop 2 s) = ap (bytes 2) (sym (w .kind-is)) ∙ bytes-number are 2 2 (omega (arith, w .fits)) in
     let header : take 2 s ++ (take 2 (drop 2 s) ++ b) ≡ take (4 + n) s =
     sym (append-assoc (take 2 s) (take 2 (drop 2 s)) b) ∙ ap (λ (l : List ℕ). (take 2 s ++ take 2 (drop 2 s)) ++ l) (w .body-is)
     ∙ rw (← (take-add 2 2 s)) (sym (take-add 4 n s)) in
-    let size-is : bodySize (rowOf (item kind b)) ≡ n = ap (λ (r : Row). bodySize r) row-is ∙ sym (told .size-is) in
-    let kind-is : rowOf (item kind b) .kind ≡ kind = ap (λ (r : Row). r .kind) row-is ∙ sym (told .kind-is) in
+    let size-is : bodySize (rowOf (item kind b)) ≡ n = sym (body-item-size kind b (w .right)) in
+    let kind-is : rowOf (item kind b) .kind ≡ kind = kind-item kind b (w .right) in
     rw (size-is, kind-is, body-item are-b kind (w .right), size-bytes, kind-bytes, header) (sym (take-append-drop (4 + n) s))
 
 -- the first of the records of s, by the bytes

@@ -1,11 +1,15 @@
 -- `own_fault` meets its contract: kind by kind.
-use mathlib.Core.Path.{_∙_}
+use mathlib.Core.Path.{_≡_, refl, ap, sym, _∙_}
+use mathlib.Core.Logic.{_≢_}
 use native.Mathlib.Omega.{arith}
 use lib.ListN.{getD}
 use denote.Ref.{now}
+use Rattle.event.specs.Event.{Act, event, drain}
+use Rattle.trace.specs.Item.{Item, act}
+use Rattle.trace.specs.Table.{partsOf, rowOf}
 use Rattle.trace.specs.Refusals.{ownFault}
-use Rattle.trace.specs.Contents.{given, wordsGiven}
-use Rattle.trace.proofs.Table.{says-shape, says-word, says-request, says-event, says-drain, last-kind}
+use Rattle.trace.specs.Contents.{Contents, contents, given, wordsGiven}
+use Rattle.trace.proofs.Table.{says-shape, says-word, says-request, says-event, says-act, kind-item}
 use Rattle.trace.proofs.Tests.{mark-test}
 use Rattle.trace.proofs.rules.own_fault.Statement.{statement}
 use Rattle.trace.proofs.rules.own_fault.Tie as tie
@@ -47,11 +51,17 @@ unfolding ownFault
 returns-4 c = let said = says-event (now (c .before .before .before .args .b)) (c .before .match .keys4) (c .before .before .before .pre .0) in
     record { is = λ before known. rw (said .is, ← (known .k-is)) (c .event-fault .ensures) }
 
+-- of the acts only an event has faults of its own
+act-clean : (c : Contents) (a : Act) → rowOf (act a) .kind ≢ 4 → ownFault c (act a) ≡ 0
+unfolding ownFault partsOf
+act-clean c (event e) n = absurd (n refl)
+act-clean c (drain rounds) n = refl
+
 returns-5 : tie.Need-returns-5
-unfolding ownFault
 returns-5 c = let r = c .match .rest in let b = now (c .before .before .args .b) in let right = c .before .before .pre .0 in
-    let said = says-drain b (last-kind b (r .0 .0 .0 .1) (r .0 .0 .1) (r .0 .1) (r .1) right) right in
-    record { is = λ before known. rw (said .is) }
+    let said = says-act b (r .0 .0 .0 .1) (r .0 .0 .1) (r .0 .1) right in
+    let kind-is = ap (λ (x : Item). rowOf x .kind) (sym (said .1)) ∙ kind-item _ b right in
+    record { is = λ before known. rw (said .1) (sym (act-clean (contents before) (said .0) (λ e. r .1 (sym kind-is ∙ e)))) }
 
 pub own-fault-spec : {M : Type 1} → statement M
 own-fault-spec =
