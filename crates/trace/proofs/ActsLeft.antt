@@ -61,7 +61,8 @@ split-low xs v low =
     let at : actsAt xs ≡ length (traceOf xs) = h .0 ∙ sym (length-trace xs) in
     record { inside = omega arith; acts-are = rw (at, drop-length (traceOf xs), h .1) }
 
-split-act : (before : Items) (a : Act) → Split before → actsAt (after before (act a)) ≡ actsAt before → actsOf (after before (act a)) ≡ actsOf before ++ (a ∷ []) → Split (after before (act a))
+split-act : (before : Items) (a : Act) → Split before → actsAt (after before (act a)) ≡ actsAt before →
+    actsOf (after before (act a)) ≡ actsOf before ++ (a ∷ []) → Split (after before (act a))
 unfolding traceOf
 split-act before a i same more = record {
   inside = omega (arith, i .inside, length-append (traceOf before) (recordOf (act a)));
@@ -101,10 +102,13 @@ unfolding actsWritten
 left-next {s} {at} {a} {rest} l =
     let x = act a in
     let long : length s - at ≡ recordSize x + length (actsWritten rest) =
-    sym (length-drop at s) ∙ ap length (l .bytes-are) ∙ length-append (recordOf x) (actsWritten rest) ∙ ap (λ (n : ℕ). n + length (actsWritten rest)) (length-record x) in
+    sym (length-drop at s) ∙ ap length (l .bytes-are) ∙ length-append (recordOf x) (actsWritten rest)
+    ∙ ap (λ (n : ℕ). n + length (actsWritten rest)) (length-record x) in
     record {
       inside = omega (arith, l .inside);
-      bytes-are = sym (drop-drop (recordSize x) at s) ∙ ap (drop (recordSize x)) (l .bytes-are) ∙ drop-at (recordOf x) (actsWritten rest) (recordSize x) (length-record x);
+      bytes-are =
+          sym (drop-drop (recordSize x) at s) ∙ ap (drop (recordSize x)) (l .bytes-are)
+          ∙ drop-at (recordOf x) (actsWritten rest) (recordSize x) (length-record x);
       fit = tail (l .fit);
     }
   where
@@ -142,7 +146,9 @@ pub next-drain : {s : List ℕ} {at : ℕ} (left : List Act) (rounds : ℕ) → 
 unfolding recordSize partsOf total
 next-drain [] rounds l e = clash (cc)
 next-drain (Act.event e ∷ rest) rounds l h = clash (cc)
-next-drain (Act.drain n ∷ rest) rounds l h = let a : n ≡ rounds = cc in record { rest = rest; left-is = ap (λ (m : ℕ). Act.drain m ∷ rest) a; are-left = left-next l }
+next-drain (Act.drain n ∷ rest) rounds l h =
+    let a : n ≡ rounds = cc in
+    record { rest = rest; left-is = ap (λ (m : ℕ). Act.drain m ∷ rest) a; are-left = left-next l }
 
 pub next-end : {s : List ℕ} {at : ℕ} (left : List Act) → Left s at left → due left ≡ End → left ≡ []
 next-end [] l e = refl
@@ -192,7 +198,8 @@ module _ (s : List ℕ) (at : ℕ) where
   read-drain [] l h k = absurd (h (omega (arith, length-drop at s, ap length (l .bytes-are), l .inside)))
   read-drain (Act.event e ∷ rest) l h k = absurd (k (byte-in (l .bytes-are) 2))
   read-drain (Act.drain n ∷ rest) l h k =
-      ap Drain (sym (number-drop 2 s at 4) ∙ ap (λ (r : List ℕ). number 2 r 4) (l .bytes-are) ∙ number-bytes 2 n (2 ∷ 0 ∷ 5 ∷ 0 ∷ []) (actsWritten rest) (first (l .fit)))
+      ap Drain (sym (number-drop 2 s at 4) ∙ ap (λ (r : List ℕ). number 2 r 4) (l .bytes-are)
+      ∙ number-bytes 2 n (2 ∷ 0 ∷ 5 ∷ 0 ∷ []) (actsWritten rest) (first (l .fit)))
     where
       first : {m : ℕ} {r : List Act} → All ActFits (Act.drain m ∷ r) → m < 65536
       first {m} (cons fits fs) = drain-bytes m fits
