@@ -11,7 +11,8 @@ use borrow.Author.Tests.{lt-ltb, le-ltb}
 use Rattle.lists.specs.Search.{All, nil, cons}
 use Rattle.lists.proofs.Tests.{by-cases}
 use Rattle.lists.proofs.Every.{all-append}
-use Rattle.digits.specs.Numeral.{digit, numeralIn, numeral, decimal, valueFrom, valueIn}
+use Rattle.digits.specs.Numeral.{digit, numeralIn, numeral, decimal}
+use Rattle.digits.specs.Inner.Value.{binary, valueFrom, valueIn}
 
 valueFrom-append : (base n : ℕ) (ds es : List ℕ) → valueFrom base n (ds ++ es) ≡ valueFrom base (valueFrom base n ds) es
 unfolding valueFrom
@@ -104,6 +105,14 @@ module _ (base : ℕ) (two : 2 ≤ base) where
       numeral-ind (λ n l. valueFrom base 0 l ≡ n) (λ n h. omega arith)
       (λ n h s. rw (valueFrom-append base 0, s) (omega (arith, div-add-mod' n base)))
 
+  pub numeral-injective : (m n : ℕ) → numeral base m ≡ numeral base n → m ≡ n
+  numeral-injective m n e = sym (numeral-value m) ∙ ap (valueIn base) e ∙ numeral-value n
+
 -- 64 bits have at most 20 digits
 pub decimal-word : (n : ℕ) → n < 2 ^ 64 → length (decimal n) ≤ 20
 decimal-word n h = numeral-length 10 (omega arith) 19 n (omega arith)
+
+-- No. 13's "shortest binary": no zero in front
+pub binary-four : binary 4 ≡ digit 1 ∷ digit 0 ∷ digit 0 ∷ []
+unfolding numeral numeralIn
+binary-four = refl

@@ -11,8 +11,8 @@ use Rattle.operation.specs.Operation.{cut, sum, applied, merged, operati
 use Rattle.operation.proofs.Bits.{and-assoc, xor-assoc, and-xor}
 
 -- ---- cut: the only law that sees its text
--- the cut may be taken inside
-cut-inside : (x y : ℕ) → cut (cut x + y) ≡ cut (x + y)
+-- the cut may be taken inside: what No. 2, 8 and 11 start from
+pub cut-inside : (x y : ℕ) → cut (cut x + y) ≡ cut (x + y)
 unfolding cut
 cut-inside x y = omega arith
 
