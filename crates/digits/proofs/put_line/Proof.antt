@@ -19,12 +19,9 @@ put-number-requires c κs =
     let start = c .before .before .before .before .before .before .before in
     room-then (c .before .before .before .put-field .ensures) (line (decimal (start .args .n) ∷ [])) (start .pre)
 
-same-length : tie.Need-same-length
-same-length c = search needs
-
 returns : tie.Need-returns
 unfolding bytesOf
 returns c = wrote-then (c .before .before .before .before .before .before .put-field .ensures) (c .before .before .put-number .ensures)
 
 pub put-line-spec : {M : Type 1} → statement M
-put-line-spec = tie.close (tie.spec put-field-requires put-number-requires same-length returns)
+put-line-spec = tie.close (tie.spec put-field-requires put-number-requires (λ c. search needs) returns)

@@ -15,11 +15,8 @@ put-byte-requires c κs =
     let start = c .before .before .before .before .before .before in
     omega (arith, room-then (c .before .before .before .put-decimal .ensures) (start .args .behind ∷ []) (start .pre))
 
-same-length : tie.Need-same-length
-same-length c = search needs
-
 returns : tie.Need-returns
 returns c = wrote-then (c .before .before .before .before .before .before .put-decimal .ensures) (c .before .before .put-byte .ensures)
 
 pub put-number-spec : {M : Type 1} → statement M
-put-number-spec = tie.close (tie.spec put-decimal-requires put-byte-requires same-length returns)
+put-number-spec = tie.close (tie.spec put-decimal-requires put-byte-requires (λ c. search needs) returns)

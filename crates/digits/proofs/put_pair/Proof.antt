@@ -27,9 +27,6 @@ put-number-requires-2 c κs =
     room-then (c .before .before .before .put-number .ensures) (line (last ∷ []))
     (room-then (c .before .before .before .before .before .before .before .put-field .ensures) (line (decimal (start .args .first) ∷ last ∷ [])) (start .pre))
 
-same-length : tie.Need-same-length
-same-length c = search needs
-
 returns : tie.Need-returns
 unfolding bytesOf
 returns c =
@@ -38,4 +35,4 @@ returns c =
     wrote-then named (wrote-then first (c .before .before .put-number2 .ensures))
 
 pub put-pair-spec : {M : Type 1} → statement M
-put-pair-spec = tie.close (tie.spec put-field-requires put-number-requires put-number-requires-2 same-length returns)
+put-pair-spec = tie.close (tie.spec put-field-requires put-number-requires put-number-requires-2 (λ c. search needs) returns)

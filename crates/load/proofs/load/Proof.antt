@@ -17,32 +17,17 @@ abbrev μ-loop : tie.MeasureT-loop
 returns : tie.Need-returns Inv-loop μ-loop
 returns c = let d = c .before .before in rw (d .pre .0, d .pre .1, d .pre .2) (loaded-long _ (c .if1 .taken))
 
-start-requires : tie.Need-start-requires Inv-loop μ-loop
-start-requires c κs = search needs
-
 loop-holds : tie.Need-loop-holds Inv-loop μ-loop
 loop-holds c = let d = c .before .before .before in rw (c .start .ensures, d .pre .0, d .pre .1, d .pre .2) (inside-start _ (c .before .if1 .left))
 
 one-turn-requires : tie.Need-one-turn-requires Inv-loop μ-loop
 one-turn-requires c κs = c .before .before .before .loop .inv
 
-enum-told : tie.Need-enum-told Inv-loop μ-loop
-enum-told c = search needs
-
-ended-requires : tie.Need-ended-requires Inv-loop μ-loop
-ended-requires c κs = search needs
-
 returns-2 : tie.Need-returns-2 Inv-loop μ-loop
 returns-2 c = rw (c .ended .ensures) (loaded-stop (rw (c .before .enum-told .given .1) at (c .before .before .before .one-turn .ensures)))
 
-enum-known-t : tie.Need-enum-known-t Inv-loop μ-loop
-enum-known-t c = search needs
-
 returns-3 : tie.Need-returns-3 Inv-loop μ-loop
 returns-3 c = loaded-fail (c .before .t .given .0 .0) (rw (c .before .t .given .1) at (c .before .before .before .one-turn .ensures))
-
-enum-known-t-2 : tie.Need-enum-known-t-2 Inv-loop μ-loop
-enum-known-t-2 c = search needs
 
 past-requests-requires : tie.Need-past-requests-requires Inv-loop μ-loop
 past-requests-requires c κs = let i = rw (c .before .before .t2 .given .1) at (c .before .before .before .before .one-turn .ensures) .1 in
@@ -68,15 +53,15 @@ load-spec =
     Inv-loop
     μ-loop
     returns
-    start-requires
+    (λ c κs. search needs)
     loop-holds
     one-turn-requires
-    enum-told
-    ended-requires
+    (λ c. search needs)
+    (λ c κs. search needs)
     returns-2
-    enum-known-t
+    (λ c. search needs)
     returns-3
-    enum-known-t-2
+    (λ c. search needs)
     past-requests-requires
     past-acts-requires
     loop-less

@@ -3,18 +3,6 @@ use borrow.Author.Needs.{needs}
 use Rattle.model.proofs.counts_of.Statement.{statement}
 use Rattle.model.proofs.counts_of.Tie as tie
 
-ordered-requires : tie.Need-ordered-requires
-ordered-requires c κs = search needs
-
-accesses-requires : tie.Need-accesses-requires
-accesses-requires c κs = search needs
-
-merges-requires : tie.Need-merges-requires
-merges-requires c κs = search needs
-
-rounds-requires : tie.Need-rounds-requires
-rounds-requires c κs = search needs
-
 returns : tie.Need-returns
 returns c = λ i. record {
   ordered = c .before .before .before .ordered .ensures i;
@@ -24,4 +12,4 @@ returns c = λ i. record {
 }
 
 pub counts-of-spec : {M : Type 1} → statement M
-counts-of-spec = tie.close (tie.spec ordered-requires accesses-requires merges-requires rounds-requires returns)
+counts-of-spec = tie.close (tie.spec (λ c κs. search needs) (λ c κs. search needs) (λ c κs. search needs) (λ c κs. search needs) returns)

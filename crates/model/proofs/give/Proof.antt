@@ -4,9 +4,6 @@ use Rattle.model.proofs.Given.{values-fit, marks-fit, order-fits, words
 use Rattle.model.proofs.give.Statement.{statement}
 use Rattle.model.proofs.give.Tie as tie
 
-requests-in-requires : tie.Need-requests-in-requires
-requests-in-requires c κs = search needs
-
 copy-values-requires : tie.Need-copy-values-requires
 copy-values-requires c κs = values-fit (c .before .before .before .before .before .before .pre) (c .before .requests-in .ensures)
 
@@ -22,21 +19,6 @@ copy-words-requires c κs =
     let d = c .before .before .before .before .before .before .before .before .before in
     words-fit (d .before .before .before .before .before .before .before .before .before .pre)
 
-counts-of-requires : tie.Need-counts-of-requires
-counts-of-requires c κs = search needs
-
-same-length : tie.Need-same-length
-same-length c = search needs
-
-same-length-2 : tie.Need-same-length-2
-same-length-2 c = search needs
-
-same-length-3 : tie.Need-same-length-3
-same-length-3 c = search needs
-
-same-length-4 : tie.Need-same-length-4
-same-length-4 c = search needs
-
 returns : tie.Need-returns
 returns c =
     let words = c .before .before .before in
@@ -50,14 +32,14 @@ pub give-spec : {M : Type 1} → statement M
 give-spec =
     tie.close
     (tie.spec
-    requests-in-requires
+    (λ c κs. search needs)
     copy-values-requires
     copy-marks-requires
     copy-order-requires
     copy-words-requires
-    counts-of-requires
-    same-length
-    same-length-2
-    same-length-3
-    same-length-4
+    (λ c κs. search needs)
+    (λ c. search needs)
+    (λ c. search needs)
+    (λ c. search needs)
+    (λ c. search needs)
     returns)

@@ -22,18 +22,6 @@ lent-to c =
 trace-bytes : (d : tie.After-load) → AreBytes (now (d .before .before .before .before .before .before .before .before .before .args .trace))
 trace-bytes d = record { below = λ j. d .before .before .before .before .before .before .before .before .shared-slice-known .given j .fits }
 
-load-requires : tie.Need-load-requires
-load-requires c κs = search needs
-
-enum-known-told : tie.Need-enum-known-told
-enum-known-told c = search needs
-
-enum-known-told-2 : tie.Need-enum-known-told-2
-enum-known-told-2 c = search needs
-
-has-room-requires : tie.Need-has-room-requires
-has-room-requires c κs = search needs
-
 from-start-requires : tie.Need-from-start-requires
 from-start-requires c κs =
     load-loading (c .before .before .before .before .before .before .before .load .ensures) (c .before .before .before .before .before .told2 .given .1)
@@ -45,18 +33,6 @@ give-requires c κs =
     let asked = roomy .before in
     let l = load-loading (asked .before .before .before .before .load .ensures) (asked .before .before .told2 .given .1) in
     may-give (ran .from-start .ensures) (lent-to asked) (room-told _ (lent-to asked) l (asked .has-room .ensures) (roomy .if1 .taken))
-
-same-length : tie.Need-same-length
-same-length c = search needs
-
-same-length-2 : tie.Need-same-length-2
-same-length-2 c = search needs
-
-same-length-3 : tie.Need-same-length-3
-same-length-3 c = search needs
-
-same-length-4 : tie.Need-same-length-4
-same-length-4 c = search needs
 
 returns : tie.Need-returns
 returns c =
@@ -85,16 +61,16 @@ pub model-spec : {M : Type 1} → statement M
 model-spec =
     tie.close
     (tie.spec
-    load-requires
-    enum-known-told
-    enum-known-told-2
-    has-room-requires
+    (λ c κs. search needs)
+    (λ c. search needs)
+    (λ c. search needs)
+    (λ c κs. search needs)
     from-start-requires
     give-requires
-    same-length
-    same-length-2
-    same-length-3
-    same-length-4
+    (λ c. search needs)
+    (λ c. search needs)
+    (λ c. search needs)
+    (λ c. search needs)
     returns
     returns-2
     returns-3)

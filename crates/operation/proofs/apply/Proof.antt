@@ -4,21 +4,6 @@ use Rattle.operation.specs.Operation.{applied}
 use Rattle.operation.proofs.apply.Statement.{statement}
 use Rattle.operation.proofs.apply.Tie as tie
 
-enum-told : tie.Need-enum-told
-enum-told c = search needs
-
-enum-known-f : tie.Need-enum-known-f
-enum-known-f c = search needs
-
-enum-known-f-2 : tie.Need-enum-known-f-2
-enum-known-f-2 c = search needs
-
-plus-requires : tie.Need-plus-requires
-plus-requires c κs = search needs
-
-enum-known-f-3 : tie.Need-enum-known-f-3
-enum-known-f-3 c = search needs
-
 returns : tie.Need-returns
 unfolding applied
 returns c = rw (c .enum-told .given .1)
@@ -39,11 +24,11 @@ pub apply-spec : {M : Type 1} → statement M
 apply-spec =
     tie.close
     (tie.spec
-    enum-told
-    enum-known-f
-    enum-known-f-2
-    plus-requires
-    enum-known-f-3
+    (λ c. search needs)
+    (λ c. search needs)
+    (λ c. search needs)
+    (λ c κs. search needs)
+    (λ c. search needs)
     returns
     returns-2
     returns-3

@@ -4,12 +4,9 @@ use Rattle.operation.specs.Operation.{cut, sum}
 use Rattle.operation.proofs.plus.Statement.{statement}
 use Rattle.operation.proofs.plus.Tie as tie
 
-wrapping-add-u64-requires : tie.Need-wrapping-add-u64-requires
-wrapping-add-u64-requires c κs = search needs
-
 returns : tie.Need-returns
 unfolding sum cut
 returns c = search needs
 
 pub plus-spec : {M : Type 1} → statement M
-plus-spec = tie.close (tie.spec wrapping-add-u64-requires returns)
+plus-spec = tie.close (tie.spec (λ c κs. search needs) returns)

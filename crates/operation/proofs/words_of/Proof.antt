@@ -4,18 +4,6 @@ use Rattle.operation.specs.Operation.{codeOf, firstOperand, secondOperan
 use Rattle.operation.proofs.words_of.Statement.{statement}
 use Rattle.operation.proofs.words_of.Tie as tie
 
-enum-told : tie.Need-enum-told
-enum-told c = search needs
-
-enum-known-f : tie.Need-enum-known-f
-enum-known-f c = search needs
-
-enum-known-f-2 : tie.Need-enum-known-f-2
-enum-known-f-2 c = search needs
-
-enum-known-f-3 : tie.Need-enum-known-f-3
-enum-known-f-3 c = search needs
-
 returns : tie.Need-returns
 unfolding codeOf firstOperand secondOperand
 returns c = rw (c .enum-told .given .1)
@@ -36,10 +24,10 @@ pub words-of-spec : {M : Type 1} → statement M
 words-of-spec =
     tie.close
     (tie.spec
-    enum-told
-    enum-known-f
-    enum-known-f-2
-    enum-known-f-3
+    (λ c. search needs)
+    (λ c. search needs)
+    (λ c. search needs)
+    (λ c. search needs)
     returns
     returns-2
     returns-3

@@ -5,21 +5,6 @@ use borrow.Author.Needs.{needs}
 use Rattle.replies.proofs.lower.Statement.{statement}
 use Rattle.replies.proofs.lower.Tie as tie
 
-sub-below : tie.Need-sub-below
-sub-below c = search needs
-
-position-of-requires : tie.Need-position-of-requires
-position-of-requires c κs = search needs
-
-reply-count-requires : tie.Need-reply-count-requires
-reply-count-requires c κs = search needs
-
-queue-room-requires : tie.Need-queue-room-requires
-queue-room-requires c κs = search needs
-
-pop-reply-requires : tie.Need-pop-reply-requires
-pop-reply-requires c κs = search needs
-
 push-reply-requires : tie.Need-push-reply-requires
 push-reply-requires c κs =
     let popped = c .before in
@@ -62,11 +47,11 @@ pub lower-spec : {M : Type 1} → statement M
 lower-spec =
     tie.close
     (tie.spec
-    sub-below
-    position-of-requires
-    reply-count-requires
-    queue-room-requires
-    pop-reply-requires
+    (λ c. search needs)
+    (λ c κs. search needs)
+    (λ c κs. search needs)
+    (λ c κs. search needs)
+    (λ c κs. search needs)
     push-reply-requires
     returns
     returns-2)

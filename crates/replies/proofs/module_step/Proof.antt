@@ -26,12 +26,6 @@ oldest-at c =
       oldest = c .oldest-request .ensures;
     }
 
-levels-requires : tie.Need-levels-requires
-levels-requires c κs = search needs
-
-queue-room-requires : tie.Need-queue-room-requires
-queue-room-requires c κs = search needs
-
 reply-count-requires : tie.Need-reply-count-requires
 reply-count-requires c κs =
     let k = c .before .before .before in
@@ -112,8 +106,8 @@ pub module-step-spec : {M : Type 1} → statement M
 module-step-spec =
     tie.close
     (tie.spec
-    levels-requires
-    queue-room-requires
+    (λ c κs. search needs)
+    (λ c κs. search needs)
     reply-count-requires
     returns
     oldest-request-requires

@@ -17,12 +17,6 @@ load-waits-requires c κs =
     let S = s .pre .0 .stands in
     ((level-small S _ (s .pre .1 .0 .1), s .pre .1 .0 .2), waits-fit S .few _ _)
 
-find-requires : tie.Need-find-requires
-find-requires c κs = search needs
-
-enum-known-found : tie.Need-enum-known-found
-enum-known-found c = search needs
-
 split-requires : tie.Need-split-requires
 split-requires c κs =
     let hit = c .before .before in
@@ -37,9 +31,6 @@ split-requires c κs =
         (w .1, found-within _ _ _ (rw (hit .found .given .1) at (found .find .ensures)), length-loaded _ (w .0)),
       ),
     )
-
-enum-told : tie.Need-enum-told
-enum-told c = search needs
 
 lower-requires : tie.Need-lower-requires
 lower-requires c κs =
@@ -73,10 +64,10 @@ return-step-spec =
     (tie.spec
     oldest-reply-requires
     load-waits-requires
-    find-requires
-    enum-known-found
+    (λ c κs. search needs)
+    (λ c. search needs)
     split-requires
-    enum-told
+    (λ c. search needs)
     lower-requires
     returns
     returns-2)

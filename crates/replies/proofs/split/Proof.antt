@@ -20,30 +20,6 @@ second-is c =
 second-requires : tie.Need-second-requires
 second-requires c κs = omega (arith, c .pre .1 .1)
 
-sub-below : tie.Need-sub-below
-sub-below c = search needs
-
-position-of-requires : tie.Need-position-of-requires
-position-of-requires c κs = search needs
-
-reply-count-requires : tie.Need-reply-count-requires
-reply-count-requires c κs = search needs
-
-queue-room-requires : tie.Need-queue-room-requires
-queue-room-requires c κs = search needs
-
-operation-at-requires : tie.Need-operation-at-requires
-operation-at-requires c κs = search needs
-
-value-at-requires : tie.Need-value-at-requires
-value-at-requires c κs = search needs
-
-apply-requires : tie.Need-apply-requires
-apply-requires c κs = search needs
-
-set-value-requires : tie.Need-set-value-requires
-set-value-requires c κs = search needs
-
 push-reply-requires : tie.Need-push-reply-requires
 push-reply-requires c κs =
     let valued = c .before in
@@ -59,9 +35,6 @@ push-reply-requires c κs =
         answered-room (s .args .m .now) _ _ _ _ set (omega (arith, s .pre .1 .0, count .reply-count .ensures, room .queue-room .ensures, test .if1 .taken)),
       ),
     )
-
-removed-requires : tie.Need-removed-requires
-removed-requires c κs = search needs
 
 store-shorter-waits-requires : tie.Need-store-shorter-waits-requires
 store-shorter-waits-requires c κs =
@@ -108,16 +81,16 @@ split-spec =
     tie.close
     (tie.spec
     second-requires
-    sub-below
-    position-of-requires
-    reply-count-requires
-    queue-room-requires
-    operation-at-requires
-    value-at-requires
-    apply-requires
-    set-value-requires
+    (λ c. search needs)
+    (λ c κs. search needs)
+    (λ c κs. search needs)
+    (λ c κs. search needs)
+    (λ c κs. search needs)
+    (λ c κs. search needs)
+    (λ c κs. search needs)
+    (λ c κs. search needs)
     push-reply-requires
-    removed-requires
+    (λ c κs. search needs)
     store-shorter-waits-requires
     returns
     returns-2)

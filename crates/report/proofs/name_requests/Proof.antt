@@ -21,23 +21,11 @@ loop-holds c = (omega arith, marked-none (c .pre .1))
 cast-address-of : tie.Need-cast-address-of Inv-loop μ-loop
 cast-address-of c = omega (arith, c .loop-test .taken, c .before .before .pre .0)
 
-address-of-requires : tie.Need-address-of-requires Inv-loop μ-loop
-address-of-requires c κs = search needs
-
-cast-named : tie.Need-cast-named Inv-loop μ-loop
-cast-named c = search needs
-
 low : (c : tie.After-address-of Inv-loop μ-loop) → c .address-of .result < 256
 low c = search needs
 
 element-write-named : tie.Need-element-write-named Inv-loop μ-loop
 element-write-named c = low c
-
-add-tag : tie.Need-add-tag Inv-loop μ-loop
-add-tag c = search needs
-
-loop-less : tie.Need-loop-less Inv-loop μ-loop
-loop-less c = search needs
 
 loop-again : tie.Need-loop-again Inv-loop μ-loop
 loop-again c =
@@ -56,10 +44,10 @@ name-requests-spec =
     μ-loop
     loop-holds
     cast-address-of
-    address-of-requires
-    cast-named
+    (λ c κs. search needs)
+    (λ c. search needs)
     element-write-named
-    add-tag
-    loop-less
+    (λ c. search needs)
+    (λ c. search needs)
     loop-again
     returns)

@@ -9,9 +9,6 @@ use Rattle.report.proofs.Lines.{wrote-orders}
 use Rattle.report.proofs.put_orders.Statement.{statement}
 use Rattle.report.proofs.put_orders.Tie as tie
 
-ordered-requires : tie.Need-ordered-requires
-ordered-requires c κs = search needs
-
 slice-aggregate-copy-order : tie.Need-slice-aggregate-copy-order
 slice-aggregate-copy-order c = refl
 
@@ -30,9 +27,6 @@ put-orders-requires c κs =
     let low : ordered .result ≤ 256 = omega (arith, ordered .ensures, start .pre .0 .order-few) in
     (omega (arith, low, order), omega (arith, low, start .pre .1))
 
-same-length : tie.Need-same-length
-same-length c = search needs
-
 returns : tie.Need-returns
 returns c =
     let start = c .before .before .before .before .before .before .before .before .before .before in
@@ -44,10 +38,10 @@ pub put-orders-spec : {M : Type 1} → statement M
 put-orders-spec =
     tie.close
     (tie.spec
-    ordered-requires
+    (λ c κs. search needs)
     slice-aggregate-copy-order
     copy-order-requires
     slice-aggregate-put-orders
     put-orders-requires
-    same-length
+    (λ c. search needs)
     returns)

@@ -13,9 +13,6 @@ use Rattle.report.proofs.put_replies.Tie as tie
 few : (c : tie.After-requests-in) → c .requests-in .result ≤ 256
 few c = omega (arith, c .requests-in .ensures, c .before .before .pre .0 .requests-few)
 
-requests-in-requires : tie.Need-requests-in-requires
-requests-in-requires c κs = search needs
-
 slice-aggregate-copy-values : tie.Need-slice-aggregate-copy-values
 slice-aggregate-copy-values c = refl
 
@@ -44,9 +41,6 @@ put-replies-requires c κs =
     let start = c .before .before .before .before .before .before .before .before .before .before .before in
     ((omega (arith, low, values), omega (arith, low, marks)), omega (arith, low, start .pre .1))
 
-same-length : tie.Need-same-length
-same-length c = search needs
-
 returns : tie.Need-returns
 returns c =
     let start = c .before .before .before .before .before .before .before .before .before .before .before .before .before .before in
@@ -60,7 +54,7 @@ pub put-replies-spec : {M : Type 1} → statement M
 put-replies-spec =
     tie.close
     (tie.spec
-    requests-in-requires
+    (λ c κs. search needs)
     slice-aggregate-copy-values
     copy-values-requires
     slice-aggregate-copy-marks
@@ -68,5 +62,5 @@ put-replies-spec =
     slice-aggregate-put-replies
     slice-aggregate-put-replies-2
     put-replies-requires
-    same-length
+    (λ c. search needs)
     returns)

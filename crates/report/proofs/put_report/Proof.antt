@@ -10,20 +10,8 @@ use Rattle.report.proofs.put_report.Tie as tie
 load-requires : tie.Need-load-requires
 load-requires c κs = (refl, refl, refl)
 
-enum-known-told : tie.Need-enum-known-told
-enum-known-told c = search needs
-
-number-of-requires : tie.Need-number-of-requires
-number-of-requires c κs = search needs
-
-cast-put-refused : tie.Need-cast-put-refused
-cast-put-refused c = search needs
-
 put-refused-requires : tie.Need-put-refused-requires
 put-refused-requires c κs = omega (arith, c .before .before .before .before .before .before .before .before .before .before .before .pre)
-
-enum-known-told-2 : tie.Need-enum-known-told-2
-enum-known-told-2 c = search needs
 
 name-requests-requires : tie.Need-name-requests-requires
 name-requests-requires c κs =
@@ -44,17 +32,11 @@ put-results-requires c κs =
     let start = ran .before .before .before .before .before .before .before .before .before .before .before .before .before .before .before in
     (ran-printable (ran .from-start .ensures), start .pre)
 
-same-length : tie.Need-same-length
-same-length c = search needs
-
 returns : tie.Need-returns
 returns c =
     let told = c .before .before .before .before .before .before in
     let number = c .before .before .before .number-of .ensures in
     printed-refused (told .before .before .load .ensures) (told .told .given .1) number (c .before .before .put-refused .ensures)
-
-same-length-2 : tie.Need-same-length-2
-same-length-2 c = search needs
 
 returns-2 : tie.Need-returns-2
 returns-2 c =
@@ -69,15 +51,15 @@ put-report-spec =
     tie.close
     (tie.spec
     load-requires
-    enum-known-told
-    number-of-requires
-    cast-put-refused
+    (λ c. search needs)
+    (λ c κs. search needs)
+    (λ c. search needs)
     put-refused-requires
-    enum-known-told-2
+    (λ c. search needs)
     name-requests-requires
     from-start-requires
     put-results-requires
-    same-length
+    (λ c. search needs)
     returns
-    same-length-2
+    (λ c. search needs)
     returns-2)

@@ -22,15 +22,6 @@ put-words-requires c κs =
     let orders = c .before .before .before .put-orders in
     omega (arith, replies .ensures .1, replies .kept .1 .0, orders .ensures .1, orders .kept .1 .0, start .pre .1)
 
-accesses-requires : tie.Need-accesses-requires
-accesses-requires c κs = search needs
-
-merges-requires : tie.Need-merges-requires
-merges-requires c κs = search needs
-
-rounds-requires : tie.Need-rounds-requires
-rounds-requires c κs = search needs
-
 put-counts-requires : tie.Need-put-counts-requires
 put-counts-requires c κs =
     let start = c .before .before .before .before .before .before .before .before .before .before .before .before .before .before .before .before .before in
@@ -38,9 +29,6 @@ put-counts-requires c κs =
     let orders = c .before .before .before .before .before .before .before .before .before .before .put-orders in
     let words = c .before .before .before .before .before .before .put-words in
     omega (arith, replies .ensures .1, replies .kept .1 .0, orders .ensures .1, orders .kept .1 .0, words .ensures .1, words .kept .0, start .pre .1)
-
-same-length : tie.Need-same-length
-same-length c = search needs
 
 returns : tie.Need-returns
 returns c =
@@ -66,9 +54,9 @@ put-results-spec =
     put-replies-requires
     put-orders-requires
     put-words-requires
-    accesses-requires
-    merges-requires
-    rounds-requires
+    (λ c κs. search needs)
+    (λ c κs. search needs)
+    (λ c κs. search needs)
     put-counts-requires
-    same-length
+    (λ c. search needs)
     returns)

@@ -7,14 +7,8 @@ use Rattle.report.proofs.report.Tie as tie
 returns : tie.Need-returns
 returns c = reported-small _ _ (c .if1 .taken)
 
-put-report-requires : tie.Need-put-report-requires
-put-report-requires c κs = search needs
-
-same-length : tie.Need-same-length
-same-length c = search needs
-
 returns-2 : tie.Need-returns-2
 returns-2 c = reported-fits _ _ (c .before .before .before .before .if1 .left) (c .before .before .put-report .ensures)
 
 pub report-spec : {M : Type 1} → statement M
-report-spec = tie.close (tie.spec returns put-report-requires same-length returns-2)
+report-spec = tie.close (tie.spec returns (λ c κs. search needs) (λ c. search needs) returns-2)

@@ -26,12 +26,6 @@ loaded c = record {
   roomW = c .before .before .before .before .wait-room .ensures;
 }
 
-queue-room-requires : tie.Need-queue-room-requires
-queue-room-requires c κs = search needs
-
-wait-room-requires : tie.Need-wait-room-requires
-wait-room-requires c κs = search needs
-
 load-requests-requires : tie.Need-load-requests-requires
 load-requests-requires c κs =
     let s = c .before .before .before .before .before in ((s .pre .1 .0 .0, s .pre .1 .0 .1, s .pre .1 .0 .2), omega (arith, s .pre .1 .0 .3))
@@ -50,12 +44,6 @@ arrive-requires c κs =
       ),
     )
 
-enum-told : tie.Need-enum-told
-enum-told c = search needs
-
-enum-told-2 : tie.Need-enum-told-2
-enum-told-2 c = search needs
-
 store-longer-requests-requires : tie.Need-store-longer-requests-requires
 store-longer-requests-requires c κs =
     let a = c .before .before .before .before .before in
@@ -66,9 +54,6 @@ store-longer-requests-requires c κs =
         (a .arrive .ensures .held .queue, longer-by-one (loaded (a .before .before)) (a .arrive .ensures) (c .before .before .enum-told2 .given .1)),
       ),
     )
-
-enum-told-3 : tie.Need-enum-told-3
-enum-told-3 c = search needs
 
 store-longer-waits-requires : tie.Need-store-longer-waits-requires
 store-longer-waits-requires c κs =
@@ -107,15 +92,15 @@ pub arrive-at-spec : {M : Type 1} → statement M
 arrive-at-spec =
     tie.close
     (tie.spec
-    queue-room-requires
-    wait-room-requires
+    (λ c κs. search needs)
+    (λ c κs. search needs)
     load-requests-requires
     load-waits-requires
     arrive-requires
-    enum-told
-    enum-told-2
+    (λ c. search needs)
+    (λ c. search needs)
     store-longer-requests-requires
-    enum-told-3
+    (λ c. search needs)
     store-longer-waits-requires
     add-merge-requires
     returns

@@ -4,20 +4,8 @@ use borrow.Author.Needs.{needs}
 use Rattle.requests.proofs.is_full.Statement.{statement}
 use Rattle.requests.proofs.is_full.Tie as tie
 
-request-count-requires : tie.Need-request-count-requires
-request-count-requires c κs = search needs
-
-queue-room-requires : tie.Need-queue-room-requires
-queue-room-requires c κs = search needs
-
 returns : tie.Need-returns
 returns c = simp (← (c .before .before .request-count .ensures .0), ← (c .before .queue-room .ensures), lt-leb _ _ (c .if1 .taken))
-
-wait-room-requires : tie.Need-wait-room-requires
-wait-room-requires c κs = search needs
-
-wait-count-requires : tie.Need-wait-count-requires
-wait-count-requires c κs = search needs
 
 returns-2 : tie.Need-returns-2
 returns-2 c =
@@ -30,4 +18,4 @@ returns-2 c =
     )
 
 pub is-full-spec : {M : Type 1} → statement M
-is-full-spec = tie.close (tie.spec request-count-requires queue-room-requires returns wait-room-requires wait-count-requires returns-2)
+is-full-spec = tie.close (tie.spec (λ c κs. search needs) (λ c κs. search needs) returns (λ c κs. search needs) (λ c κs. search needs) returns-2)

@@ -16,17 +16,11 @@ goes c = let s = c .before .before .before .before in
 next-of-requires : tie.Need-next-of-requires
 next-of-requires c κs = let s = c .before in (s .pre .1 .0, s .pre .1 .1)
 
-position-of-requires : tie.Need-position-of-requires
-position-of-requires c κs = search needs
-
 is-full-requires : tie.Need-is-full-requires
 is-full-requires c κs = (omega arith, omega arith, c .before .position-of .ensures .1)
 
 returns : tie.Need-returns
 returns c = full-moves (goes (c .before .before .before)) (c .before .is-full .ensures) (c .if1 .taken)
-
-after-of-requires : tie.Need-after-of-requires
-after-of-requires c κs = search needs
 
 arrive-at-requires : tie.Need-arrive-at-requires
 arrive-at-requires c κs =
@@ -57,10 +51,10 @@ issue-spec =
     tie.close
     (tie.spec
     next-of-requires
-    position-of-requires
+    (λ c κs. search needs)
     is-full-requires
     returns
-    after-of-requires
+    (λ c κs. search needs)
     arrive-at-requires
     replace-next-requires
     returns-2

@@ -14,29 +14,8 @@ Inv-loop m order₀ n i₀ order i = (i ≤ n) × Filled (λ j. getD (view m .or
 abbrev μ-loop : tie.MeasureT-loop
 μ-loop m order₀ n i₀ order i = n - i
 
-ordered-requires : tie.Need-ordered-requires Inv-loop μ-loop
-ordered-requires c κs = search needs
-
 loop-holds : tie.Need-loop-holds Inv-loop μ-loop
 loop-holds c = (omega arith, filled-none)
-
-order-at-requires : tie.Need-order-at-requires Inv-loop μ-loop
-order-at-requires c κs = search needs
-
-cast-order : tie.Need-cast-order Inv-loop μ-loop
-cast-order c = search needs
-
-mul-order : tie.Need-mul-order Inv-loop μ-loop
-mul-order c = search needs
-
-slice-write-order : tie.Need-slice-write-order Inv-loop μ-loop
-slice-write-order c = search needs
-
-add-i : tie.Need-add-i Inv-loop μ-loop
-add-i c = search needs
-
-loop-less : tie.Need-loop-less Inv-loop μ-loop
-loop-less c = search needs
 
 loop-again : tie.Need-loop-again Inv-loop μ-loop
 loop-again c = (omega arith, filled-more (c .before .before .loop .inv .1) (omega arith) (c .order-at .ensures))
@@ -53,14 +32,14 @@ copy-order-spec =
     (tie.spec
     Inv-loop
     μ-loop
-    ordered-requires
+    (λ c κs. search needs)
     loop-holds
-    order-at-requires
-    cast-order
-    mul-order
-    slice-write-order
-    add-i
-    loop-less
+    (λ c κs. search needs)
+    (λ c. search needs)
+    (λ c. search needs)
+    (λ c. search needs)
+    (λ c. search needs)
+    (λ c. search needs)
     loop-again
     same-length
     returns)

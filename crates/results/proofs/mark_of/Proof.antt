@@ -3,9 +3,6 @@ use borrow.Author.Needs.{needs}
 use Rattle.results.proofs.mark_of.Statement.{statement}
 use Rattle.results.proofs.mark_of.Tie as tie
 
-is-answered-requires : tie.Need-is-answered-requires
-is-answered-requires c κs = search needs
-
 returns : tie.Need-returns
 returns c = rw (← (c .before .is-answered .ensures), c .if1 .taken)
 
@@ -13,4 +10,4 @@ returns-2 : tie.Need-returns-2
 returns-2 c = rw (← (c .before .is-answered .ensures), c .if1 .left)
 
 pub mark-of-spec : {M : Type 1} → statement M
-mark-of-spec = tie.close (tie.spec is-answered-requires returns returns-2)
+mark-of-spec = tie.close (tie.spec (λ c κs. search needs) returns returns-2)

@@ -4,11 +4,8 @@ use Rattle.rounds.proofs.Draining.{answered-tells}
 use Rattle.rounds.proofs.all_answered.Statement.{statement}
 use Rattle.rounds.proofs.all_answered.Tie as tie
 
-all-answered-requires : tie.Need-all-answered-requires
-all-answered-requires c κs = search needs
-
 returns : tie.Need-returns
 returns c = answered-tells _ (c .all-answered .ensures)
 
 pub all-answered-spec : {M : Type 1} → statement M
-all-answered-spec = tie.close (tie.spec all-answered-requires returns)
+all-answered-spec = tie.close (tie.spec (λ c κs. search needs) returns)

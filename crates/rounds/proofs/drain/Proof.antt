@@ -28,9 +28,6 @@ add-round-requires : tie.Need-add-round-requires Inv-loop μ-loop
 add-round-requires c κs = let M = c .before .round .ensures in
     (M .sized, draining-few (c .before .before .before .before .before .before .before .before .loop .inv) M)
 
-sub-left : tie.Need-sub-left Inv-loop μ-loop
-sub-left c = search needs
-
 loop-less : tie.Need-loop-less Inv-loop μ-loop
 loop-less c = omega (arith, c .before .before .before .before .before .before .before .before .loop-test .taken)
 
@@ -54,7 +51,7 @@ drain-spec =
     returns
     round-requires
     add-round-requires
-    sub-left
+    (λ c. search needs)
     loop-less
     loop-again
     returns-2)

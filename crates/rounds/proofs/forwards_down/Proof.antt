@@ -12,9 +12,6 @@ Inv-loop m₀ level₀ m level = Falling m₀ m level
 abbrev μ-loop : tie.MeasureT-loop
 μ-loop m₀ level₀ m level = level
 
-levels-requires : tie.Need-levels-requires Inv-loop μ-loop
-levels-requires c κs = search needs
-
 sub-level : tie.Need-sub-level Inv-loop μ-loop
 sub-level c = omega (arith, c .levels .ensures, levels-within (c .before .before .pre .stands) .0)
 
@@ -24,9 +21,6 @@ loop-holds c = falling-begins (c .before .before .pre) (rw (c .levels .ensures))
 forwards-requires : tie.Need-forwards-requires Inv-loop μ-loop
 forwards-requires c κs = let A = c .before .before .loop .inv in
     (A .ready, (c .before .loop-test .taken, falling-level A))
-
-sub-level-2 : tie.Need-sub-level-2 Inv-loop μ-loop
-sub-level-2 c = search needs
 
 loop-less : tie.Need-loop-less Inv-loop μ-loop
 loop-less c = omega (arith, c .before .before .loop-test .taken)
@@ -43,11 +37,11 @@ forwards-down-spec =
     (tie.spec
     Inv-loop
     μ-loop
-    levels-requires
+    (λ c κs. search needs)
     sub-level
     loop-holds
     forwards-requires
-    sub-level-2
+    (λ c. search needs)
     loop-less
     loop-again
     returns)

@@ -11,9 +11,6 @@ Inv-loop m₀ words₀ k left₀ m words left = Served k m₀ words₀ m words l
 abbrev μ-loop : tie.MeasureT-loop
 μ-loop m₀ words₀ k left₀ m words left = left
 
-levels-requires : tie.Need-levels-requires Inv-loop μ-loop
-levels-requires c κs = search needs
-
 request-row-requires : tie.Need-request-row-requires Inv-loop μ-loop
 request-row-requires c κs = omega (arith, c .before .levels .ensures, levels-within (c .before .before .before .pre .stands) .1)
 
@@ -48,7 +45,7 @@ modules-spec =
     (tie.spec
     Inv-loop
     μ-loop
-    levels-requires
+    (λ c κs. search needs)
     request-row-requires
     loop-holds
     first-busy-requires

@@ -12,14 +12,8 @@ Inv-loop m₀ k level₀ m level = Risen m₀ m k level
 abbrev μ-loop : tie.MeasureT-loop
 μ-loop m₀ k level₀ m level = k - level
 
-levels-requires : tie.Need-levels-requires Inv-loop μ-loop
-levels-requires c κs = search needs
-
 loop-holds : tie.Need-loop-holds Inv-loop μ-loop
 loop-holds c = risen-begins (c .before .before .pre) (c .levels .ensures)
-
-add-level : tie.Need-add-level Inv-loop μ-loop
-add-level c = search needs
 
 returns-requires : tie.Need-returns-requires Inv-loop μ-loop
 returns-requires c κs = let A = c .before .before .loop .inv in
@@ -40,9 +34,9 @@ returns-up-spec =
     (tie.spec
     Inv-loop
     μ-loop
-    levels-requires
+    (λ c κs. search needs)
     loop-holds
-    add-level
+    (λ c. search needs)
     returns-requires
     loop-less
     loop-again

@@ -7,12 +7,6 @@ use Rattle.start.proofs.Linking.{first-none, first-some, first-there}
 use Rattle.start.proofs.first_of.Statement.{statement}
 use Rattle.start.proofs.first_of.Tie as tie
 
-no-request-requires : tie.Need-no-request-requires
-no-request-requires c κs = search needs
-
-requests-in-requires : tie.Need-requests-in-requires
-requests-in-requires c κs = search needs
-
 returns : tie.Need-returns
 returns c = let s = c .before .before .before in
     (c .requests-in .ensures ∙ first-none (view (s .args .m .now)) (s .args .e) (c .before .before .no-request .ensures) (c .before .if1 .taken), omega arith)
@@ -21,12 +15,9 @@ next-of-requires : tie.Need-next-of-requires
 next-of-requires c κs = let s = c .before .before in
     (s .pre .0, first-there (view (s .args .m .now)) (s .args .e) (c .before .no-request .ensures) (c .if1 .left))
 
-cast-result : tie.Need-cast-result
-cast-result c = search needs
-
 returns-2 : tie.Need-returns-2
 returns-2 c = let s = c .before .before .before in
     (c .next-of .ensures ∙ first-some (view (s .args .m .now)) (s .args .e) (c .before .before .no-request .ensures) (c .before .if1 .left), omega arith)
 
 pub first-of-spec : {M : Type 1} → statement M
-first-of-spec = tie.close (tie.spec no-request-requires requests-in-requires returns next-of-requires cast-result returns-2)
+first-of-spec = tie.close (tie.spec (λ c κs. search needs) (λ c κs. search needs) returns next-of-requires (λ c. search needs) returns-2)

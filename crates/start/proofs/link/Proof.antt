@@ -8,18 +8,6 @@ use borrow.Author.Needs.{needs}
 use Rattle.start.proofs.link.Statement.{statement}
 use Rattle.start.proofs.link.Tie as tie
 
-cast-position-of : tie.Need-cast-position-of
-cast-position-of c = search needs
-
-position-of-requires : tie.Need-position-of-requires
-position-of-requires c κs = search needs
-
-first-of-requires : tie.Need-first-of-requires
-first-of-requires c κs = search needs
-
-set-after-requires : tie.Need-set-after-requires
-set-after-requires c κs = search needs
-
 set-next-requires : tie.Need-set-next-requires
 set-next-requires c κs =
     let after = c .before .set-after .ensures in
@@ -52,9 +40,9 @@ pub link-spec : {M : Type 1} → statement M
 link-spec =
     tie.close
     (tie.spec
-    cast-position-of
-    position-of-requires
-    first-of-requires
-    set-after-requires
+    (λ c. search needs)
+    (λ c κs. search needs)
+    (λ c κs. search needs)
+    (λ c κs. search needs)
     set-next-requires
     returns)

@@ -17,15 +17,9 @@ fits : (c : tie.Start) → length (countLines (c .args .accesses) (c .args .merg
 fits c =
     countLines-length (c .args .accesses) (c .args .merges) (c .args .rounds) (c .fits .accesses .fits) (c .fits .merges .fits) (c .fits .rounds .fits)
 
-slice-aggregate-put-line : tie.Need-slice-aggregate-put-line
-slice-aggregate-put-line c = search needs
-
 put-line-requires : tie.Need-put-line-requires
 unfolding countLines bytesOf
 put-line-requires c κs = simp length-append (omega (arith, simp length-append at (fits (c .before .before .before))))
-
-slice-aggregate-put-line-2 : tie.Need-slice-aggregate-put-line-2
-slice-aggregate-put-line-2 c = search needs
 
 put-line-requires-2 : tie.Need-put-line-requires-2
 unfolding countLines bytesOf
@@ -34,9 +28,6 @@ put-line-requires-2 c κs =
     room-then (c .before .before .before .before .put-line .ensures) (line (bytesOf "merge" ∷ decimal (start .args .merges) ∷ []))
     (simp length-append (omega (arith, simp length-append at (fits start))))
 
-slice-aggregate-put-line-3 : tie.Need-slice-aggregate-put-line-3
-slice-aggregate-put-line-3 c = search needs
-
 put-line-requires-3 : tie.Need-put-line-requires-3
 unfolding countLines bytesOf
 put-line-requires-3 c κs =
@@ -44,9 +35,6 @@ put-line-requires-3 c κs =
     let accesses = c .before .before .before .before .before .before .before .before .before .put-line .ensures in
     let merges = c .before .before .before .before .put-line2 .ensures in
     room-then (wrote-then accesses merges) (line (bytesOf "rounds" ∷ decimal (start .args .rounds) ∷ [])) (omega (arith, fits start))
-
-same-length : tie.Need-same-length
-same-length c = search needs
 
 returns : tie.Need-returns
 unfolding countLines bytesOf
@@ -60,11 +48,11 @@ pub put-counts-spec : {M : Type 1} → statement M
 put-counts-spec =
     tie.close
     (tie.spec
-    slice-aggregate-put-line
+    (λ c. search needs)
     put-line-requires
-    slice-aggregate-put-line-2
+    (λ c. search needs)
     put-line-requires-2
-    slice-aggregate-put-line-3
+    (λ c. search needs)
     put-line-requires-3
-    same-length
+    (λ c. search needs)
     returns)

@@ -14,15 +14,9 @@ use Rattle.text.proofs.put_refused.Tie as tie
 fits : (c : tie.Start) → length (refusedText (c .args .number) (c .args .offset)) ≤ lineRoom
 fits c = refusedText-length (c .args .number) (c .args .offset) (c .fits .number .fits) (c .fits .offset .fits)
 
-slice-aggregate-put-pair : tie.Need-slice-aggregate-put-pair
-slice-aggregate-put-pair c = search needs
-
 put-pair-requires : tie.Need-put-pair-requires
 unfolding refusedText bytesOf
 put-pair-requires c κs = omega (arith, fits (c .before .before .before))
-
-same-length : tie.Need-same-length
-same-length c = search needs
 
 returns : tie.Need-returns
 unfolding refusedText bytesOf
@@ -31,4 +25,4 @@ returns c =
     wrote-printed w (omega (arith, w .behind, fits (c .before .before .before .before .before .before)))
 
 pub put-refused-spec : {M : Type 1} → statement M
-put-refused-spec = tie.close (tie.spec slice-aggregate-put-pair put-pair-requires same-length returns)
+put-refused-spec = tie.close (tie.spec (λ c. search needs) put-pair-requires (λ c. search needs) returns)

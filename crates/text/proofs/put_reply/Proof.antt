@@ -16,19 +16,10 @@ use Rattle.text.proofs.put_reply.Tie as tie
 fits : (c : tie.Start) → length (replyLine (c .args .tag) (c .args .value) (c .args .mark)) ≤ lineRoom
 fits c = replyLine-length (c .args .tag) (c .args .value) (c .args .mark) (c .fits .tag .fits) (c .fits .value .fits)
 
-slice-aggregate-put-field : tie.Need-slice-aggregate-put-field
-slice-aggregate-put-field c = search needs
-
-put-field-requires : tie.Need-put-field-requires
-put-field-requires c κs = search needs
-
 put-number-requires : tie.Need-put-number-requires
 put-number-requires c κs =
     let start = c .before .before .before .before .before .before .before in
     simp length-append (omega (arith, c .before .before .before .put-field .ensures .behind, decimal-word _ (start .fits .tag .fits), start .pre))
-
-slice-aggregate-put-field-2 : tie.Need-slice-aggregate-put-field-2
-slice-aggregate-put-field-2 c = search needs
 
 put-field-requires-2 : tie.Need-put-field-requires-2
 put-field-requires-2 c κs =
@@ -45,9 +36,6 @@ put-number-requires-2 c κs =
     simp length-append
     (omega (arith, named, simp length-append at tagged, decimal-word _ (start .fits .tag .fits), decimal-word _ (start .fits .value .fits), start .pre))
 
-same-length : tie.Need-same-length
-same-length c = search needs
-
 returns : tie.Need-returns
 unfolding replyLine bytesOf
 returns c =
@@ -56,9 +44,6 @@ returns c =
     let tagged = c .before .before .before .before .before .before .before .before .put-number .ensures in
     let line = wrote-then named (wrote-then tagged (c .before .before .put-field2 .ensures)) in
     wrote-within lineRoom (fits start) (rw (eq-eqb _ 0 (c .before .before .before .before .before .if1 .taken)) line)
-
-same-length-2 : tie.Need-same-length-2
-same-length-2 c = search needs
 
 returns-2 : tie.Need-returns-2
 unfolding replyLine bytesOf
@@ -73,13 +58,13 @@ pub put-reply-spec : {M : Type 1} → statement M
 put-reply-spec =
     tie.close
     (tie.spec
-    slice-aggregate-put-field
-    put-field-requires
+    (λ c. search needs)
+    (λ c κs. search needs)
     put-number-requires
-    slice-aggregate-put-field-2
+    (λ c. search needs)
     put-field-requires-2
     put-number-requires-2
-    same-length
+    (λ c. search needs)
     returns
-    same-length-2
+    (λ c. search needs)
     returns-2)

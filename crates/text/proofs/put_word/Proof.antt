@@ -15,9 +15,6 @@ use Rattle.text.proofs.put_word.Tie as tie
 fits : (c : tie.Start) → length (wordLine (c .args .address) (c .args .value) (c .args .named)) ≤ lineRoom
 fits c = wordLine-length (c .args .address) (c .args .value) (c .args .named) (c .fits .address .fits) (c .fits .value .fits)
 
-slice-aggregate-put-pair : tie.Need-slice-aggregate-put-pair
-slice-aggregate-put-pair c = search needs
-
 put-pair-requires : tie.Need-put-pair-requires
 unfolding wordLine bytesOf
 put-pair-requires c κs = omega (arith, rw (ne-eqb _ 0 (c .before .before .if1 .left)) at (fits (c .before .before .before .before)))
@@ -25,9 +22,6 @@ put-pair-requires c κs = omega (arith, rw (ne-eqb _ 0 (c .before .before .if1 .
 returns : tie.Need-returns
 unfolding wordLine
 returns c = wrote-within lineRoom (fits (c .before .before)) (rw (eq-eqb _ 0 (c .if1 .taken)) (wrote-nothing _ _))
-
-same-length : tie.Need-same-length
-same-length c = search needs
 
 returns-2 : tie.Need-returns-2
 unfolding wordLine bytesOf
@@ -37,4 +31,4 @@ returns-2 c =
     wrote-within lineRoom (fits start) (rw (ne-eqb _ 0 some) (c .before .before .put-pair .ensures))
 
 pub put-word-spec : {M : Type 1} → statement M
-put-word-spec = tie.close (tie.spec slice-aggregate-put-pair put-pair-requires returns same-length returns-2)
+put-word-spec = tie.close (tie.spec (λ c. search needs) put-pair-requires returns (λ c. search needs) returns-2)

@@ -3,27 +3,6 @@ use borrow.Author.Needs.{needs}
 use Rattle.whetbracken.proofs.numbers_of.Statement.{statement}
 use Rattle.whetbracken.proofs.numbers_of.Tie as tie
 
-enum-known-told : tie.Need-enum-known-told
-enum-known-told c = search needs
-
-enum-known-told-2 : tie.Need-enum-known-told-2
-enum-known-told-2 c = search needs
-
-number-of-requires : tie.Need-number-of-requires
-number-of-requires c κs = search needs
-
-cast-refused : tie.Need-cast-refused
-cast-refused c = search needs
-
-refused-requires : tie.Need-refused-requires
-refused-requires c κs = search needs
-
-enum-told : tie.Need-enum-told
-enum-told c = search needs
-
-refused-requires-2 : tie.Need-refused-requires-2
-refused-requires-2 c κs = search needs
-
 returns : tie.Need-returns
 returns c = rw (c .before .told .given .1)
 
@@ -37,13 +16,13 @@ pub numbers-of-spec : {M : Type 1} → statement M
 numbers-of-spec =
     tie.close
     (tie.spec
-    enum-known-told
-    enum-known-told-2
-    number-of-requires
-    cast-refused
-    refused-requires
-    enum-told
-    refused-requires-2
+    (λ c. search needs)
+    (λ c. search needs)
+    (λ c κs. search needs)
+    (λ c. search needs)
+    (λ c κs. search needs)
+    (λ c. search needs)
+    (λ c κs. search needs)
     returns
     returns-2
     returns-3)

@@ -8,9 +8,6 @@ use Rattle.wiring.proofs.Shifts.{width-exact}
 use Rattle.wiring.proofs.module_of.Statement.{statement}
 use Rattle.wiring.proofs.module_of.Tie as tie
 
-shl-result : tie.Need-shl-result
-shl-result c = search needs
-
 rem-result : tie.Need-rem-result
 rem-result c = rw (width-exact (c .args .k) (c .pre)) (pow-pos (c .args .k))
 
@@ -19,4 +16,4 @@ unfolding moduleOf
 returns c = rw (width-exact (c .args .k) (c .pre)) (refl, module-below (c .args .k) (c .args .address))
 
 pub module-of-spec : {M : Type 1} → statement M
-module-of-spec = tie.close (tie.spec shl-result rem-result returns)
+module-of-spec = tie.close (tie.spec (λ c. search needs) rem-result returns)

@@ -13,12 +13,6 @@ Inv-loop k engine address route₀ path₀ left₀ route path left = From k engi
 abbrev μ-loop : tie.MeasureT-loop
 μ-loop k engine address route₀ path₀ left₀ route path left = left
 
-shl-route : tie.Need-shl-route Inv-loop μ-loop
-shl-route c = search needs
-
-module-of-requires : tie.Need-module-of-requires Inv-loop μ-loop
-module-of-requires c κs = search needs
-
 add-route : tie.Need-add-route Inv-loop μ-loop
 add-route c =
     let s = c .before in
@@ -27,17 +21,11 @@ add-route c =
     let shifted = left-small (s .args .engine) (s .args .k) (omega (arith, s .pre .1, small)) (s .pre .0) in
     record { fits = omega (arith, exact, shifted, c .module-of .ensures .1, small) }
 
-add-left : tie.Need-add-left Inv-loop μ-loop
-add-left c = search needs
-
 loop-holds : tie.Need-loop-holds Inv-loop μ-loop
 loop-holds c =
     let s = c .before in
     let exact = left-exact (s .args .engine) (s .args .k) (omega (arith, s .pre .1, width-small (s .args .k) (s .pre .0))) (s .pre .0) in
     rw (exact, c .module-of .ensures .0) from-none
-
-sub-left : tie.Need-sub-left Inv-loop μ-loop
-sub-left c = search needs
 
 mul-path : tie.Need-mul-path Inv-loop μ-loop
 mul-path c =
@@ -45,18 +33,12 @@ mul-path c =
     let s = c .before .before .before in
     record { fits = omega (arith, from-small (s .pre .0) (l .inv) (c .loop-test .taken)) }
 
-module-of-requires-2 : tie.Need-module-of-requires-2 Inv-loop μ-loop
-module-of-requires-2 c κs = search needs
-
 add-path : tie.Need-add-path Inv-loop μ-loop
 add-path c =
     let l = c .before .before .loop in
     let s = c .before .before .before .before in
     let small = from-small (s .pre .0) (l .inv) (c .before .loop-test .taken) in
     record { fits = omega (arith, small, c .module-of2 .ensures .1, width-small (s .args .k) (s .pre .0)) }
-
-loop-less : tie.Need-loop-less Inv-loop μ-loop
-loop-less c = search needs
 
 loop-again : tie.Need-loop-again Inv-loop μ-loop
 loop-again c =
@@ -77,15 +59,15 @@ path-of-spec =
     (tie.spec
     Inv-loop
     μ-loop
-    shl-route
-    module-of-requires
+    (λ c. search needs)
+    (λ c κs. search needs)
     add-route
-    add-left
+    (λ c. search needs)
     loop-holds
-    sub-left
+    (λ c. search needs)
     mul-path
-    module-of-requires-2
+    (λ c κs. search needs)
     add-path
-    loop-less
+    (λ c. search needs)
     loop-again
     returns)

@@ -7,15 +7,9 @@ use Rattle.wiring.specs.Inner.Path.{positionOn}
 use Rattle.wiring.proofs.position_on.Statement.{statement}
 use Rattle.wiring.proofs.position_on.Tie as tie
 
-mul-result : tie.Need-mul-result
-mul-result c = search needs
-
-shr-result : tie.Need-shr-result
-shr-result c = search needs
-
 returns : tie.Need-returns
 unfolding positionOn digit
 returns c = (refl, omega arith)
 
 pub position-on-spec : {M : Type 1} → statement M
-position-on-spec = tie.close (tie.spec mul-result shr-result returns)
+position-on-spec = tie.close (tie.spec (λ c. search needs) (λ c. search needs) returns)

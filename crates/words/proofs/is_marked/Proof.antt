@@ -7,11 +7,8 @@ use Rattle.words.proofs.Marks.{bit-is}
 use Rattle.words.proofs.is_marked.Statement.{statement}
 use Rattle.words.proofs.is_marked.Tie as tie
 
-shr-result : tie.Need-shr-result
-shr-result c = search needs
-
 returns : tie.Need-returns
 returns c = ap (λ (d : ℕ). eqb d 1) (bit-is (c .args .w) (c .args .i))
 
 pub is-marked-spec : {M : Type 1} → statement M
-is-marked-spec = tie.close (tie.spec shr-result returns)
+is-marked-spec = tie.close (tie.spec (λ c. search needs) returns)

@@ -6,15 +6,9 @@ use Rattle.words.specs.Inner.Digits.{digit}
 use Rattle.words.proofs.length_in.Statement.{statement}
 use Rattle.words.proofs.length_in.Tie as tie
 
-mul-result : tie.Need-mul-result
-mul-result c = search needs
-
-shr-result : tie.Need-shr-result
-shr-result c = search needs
-
 returns : tie.Need-returns
 unfolding digit
 returns c = (refl, omega arith)
 
 pub length-in-spec : {M : Type 1} → statement M
-length-in-spec = tie.close (tie.spec mul-result shr-result returns)
+length-in-spec = tie.close (tie.spec (λ c. search needs) (λ c. search needs) returns)

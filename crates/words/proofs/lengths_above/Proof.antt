@@ -6,17 +6,8 @@ use Rattle.words.proofs.Written.{above-lengths}
 use Rattle.words.proofs.lengths_above.Statement.{statement}
 use Rattle.words.proofs.lengths_above.Tie as tie
 
-mul-s : tie.Need-mul-s
-mul-s c = search needs
-
-shr-result : tie.Need-shr-result
-shr-result c = search needs
-
-shl-result : tie.Need-shl-result
-shl-result c = search needs
-
 returns : tie.Need-returns
 returns c = let f : c .args .row < 2 ^ 64 = omega arith in above-lengths (c .args .row) (c .args .p) (c .pre) f
 
 pub lengths-above-spec : {M : Type 1} → statement M
-lengths-above-spec = tie.close (tie.spec mul-s shr-result shl-result returns)
+lengths-above-spec = tie.close (tie.spec (λ c. search needs) (λ c. search needs) (λ c. search needs) returns)

@@ -9,9 +9,6 @@ use Rattle.words.proofs.low_marks.Tie as tie
 returns : tie.Need-returns
 returns c = rw (c .if1 .taken) (low-bits 64)
 
-shl-result : tie.Need-shl-result
-shl-result c = search needs
-
 sub-result : tie.Need-sub-result
 sub-result c = one-pos (c .before .args .n) (omega (arith, c .before .pre, c .if1 .left))
 
@@ -19,4 +16,4 @@ returns-2 : tie.Need-returns-2
 returns-2 c = low-bits-written (c .before .args .n) (omega (arith, c .before .pre, c .if1 .left))
 
 pub low-marks-spec : {M : Type 1} → statement M
-low-marks-spec = tie.close (tie.spec returns shl-result sub-result returns-2)
+low-marks-spec = tie.close (tie.spec returns (λ c. search needs) sub-result returns-2)

@@ -7,12 +7,6 @@ use Rattle.words.proofs.Written.{less-within, less-digits}
 use Rattle.words.proofs.one_less.Statement.{statement}
 use Rattle.words.proofs.one_less.Tie as tie
 
-mul-result : tie.Need-mul-result
-mul-result c = search needs
-
-shl-result : tie.Need-shl-result
-shl-result c = search needs
-
 sub-result : tie.Need-sub-result
 sub-result c = let f : c .args .row < 2 ^ 64 = omega arith in less-within 4 16 (c .args .row) (c .args .p) refl (c .pre .0) f (c .pre .1)
 
@@ -20,4 +14,4 @@ returns : tie.Need-returns
 returns c = let f : c .args .row < 2 ^ 64 = omega arith in less-digits 4 16 (c .args .row) (c .args .p) refl (c .pre .0) f (c .pre .1)
 
 pub one-less-spec : {M : Type 1} → statement M
-one-less-spec = tie.close (tie.spec mul-result shl-result sub-result returns)
+one-less-spec = tie.close (tie.spec (λ c. search needs) (λ c. search needs) sub-result returns)

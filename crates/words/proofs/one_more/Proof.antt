@@ -7,12 +7,6 @@ use Rattle.words.proofs.Written.{more-fits, more-digits}
 use Rattle.words.proofs.one_more.Statement.{statement}
 use Rattle.words.proofs.one_more.Tie as tie
 
-mul-result : tie.Need-mul-result
-mul-result c = search needs
-
-shl-result : tie.Need-shl-result
-shl-result c = search needs
-
 add-result : tie.Need-add-result
 add-result c =
     let f : c .args .row < 2 ^ 64 = omega arith in record { fits = more-fits 4 16 (c .args .row) (c .args .p) refl (c .pre .0) f (omega (arith, c .pre .1)) }
@@ -21,4 +15,4 @@ returns : tie.Need-returns
 returns c = let f : c .args .row < 2 ^ 64 = omega arith in more-digits 4 16 (c .args .row) (c .args .p) refl (c .pre .0) f (omega (arith, c .pre .1))
 
 pub one-more-spec : {M : Type 1} → statement M
-one-more-spec = tie.close (tie.spec mul-result shl-result add-result returns)
+one-more-spec = tie.close (tie.spec (λ c. search needs) (λ c. search needs) add-result returns)

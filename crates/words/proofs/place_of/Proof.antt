@@ -9,12 +9,6 @@ use Rattle.words.proofs.Places.{place-of}
 use Rattle.words.proofs.place_of.Statement.{statement}
 use Rattle.words.proofs.place_of.Tie as tie
 
-mul-x : tie.Need-mul-x
-mul-x c = search needs
-
-wrapping-sub-u64-requires : tie.Need-wrapping-sub-u64-requires
-wrapping-sub-u64-requires c κs = search needs
-
 cast-result : tie.Need-cast-result
 cast-result c = record { fits = lt-of-le-of-lt (trailing-le 64 _) (lit< tt) }
 
@@ -24,4 +18,4 @@ returns c =
     place-of (c .before .args .w) (c .before .args .b) (c .wrapping-sub-u64 .result) (omega arith) f (c .wrapping-sub-u64 .ensures)
 
 pub place-of-spec : {M : Type 1} → statement M
-place-of-spec = tie.close (tie.spec mul-x wrapping-sub-u64-requires cast-result returns)
+place-of-spec = tie.close (tie.spec (λ c. search needs) (λ c κs. search needs) cast-result returns)

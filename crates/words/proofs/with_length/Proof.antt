@@ -8,21 +8,9 @@ use Rattle.words.proofs.Written.{taken, written-fits, written-digits}
 use Rattle.words.proofs.with_length.Statement.{statement}
 use Rattle.words.proofs.with_length.Tie as tie
 
-mul-s : tie.Need-mul-s
-mul-s c = search needs
-
-shr-result : tie.Need-shr-result
-shr-result c = search needs
-
-shl-result : tie.Need-shl-result
-shl-result c = search needs
-
 sub-result : tie.Need-sub-result
 unfolding digit
 sub-result c = let f : c .args .row < 2 ^ 64 = omega arith in taken 4 16 (c .args .row) (c .args .p) refl (c .pre .0) f
-
-shl-result-2 : tie.Need-shl-result-2
-shl-result-2 c = search needs
 
 add-result : tie.Need-add-result
 unfolding digit
@@ -35,4 +23,4 @@ returns c = let f : c .args .row < 2 ^ 64 = omega arith in written-digits 4 16 (
 
 pub with-length-spec : {M : Type 1} → statement M
 with-length-spec =
-    tie.close (tie.spec mul-s shr-result shl-result sub-result shl-result-2 add-result returns)
+    tie.close (tie.spec (λ c. search needs) (λ c. search needs) (λ c. search needs) sub-result (λ c. search needs) add-result returns)

@@ -5,11 +5,8 @@ use Rattle.words.proofs.Written.{pushed}
 use Rattle.words.proofs.with_lowest.Statement.{statement}
 use Rattle.words.proofs.with_lowest.Tie as tie
 
-add-result : tie.Need-add-result
-add-result c = search needs
-
 returns : tie.Need-returns
 returns c = pushed (c .args .w) (c .args .b) (omega arith)
 
 pub with-lowest-spec : {M : Type 1} → statement M
-with-lowest-spec = tie.close (tie.spec add-result returns)
+with-lowest-spec = tie.close (tie.spec (λ c. search needs) returns)

@@ -6,9 +6,6 @@ use Rattle.words.proofs.Marks.{marked-fits, marked-bits}
 use Rattle.words.proofs.with_mark.Statement.{statement}
 use Rattle.words.proofs.with_mark.Tie as tie
 
-shl-result : tie.Need-shl-result
-shl-result c = search needs
-
 add-result : tie.Need-add-result
 add-result c = let f : c .args .w < 2 ^ 64 = omega arith in record { fits = marked-fits (c .args .w) (c .args .i) (c .pre .0) f (c .pre .1) }
 
@@ -16,4 +13,4 @@ returns : tie.Need-returns
 returns c = let f : c .args .w < 2 ^ 64 = omega arith in marked-bits (c .args .w) (c .args .i) (c .pre .0) f (c .pre .1)
 
 pub with-mark-spec : {M : Type 1} → statement M
-with-mark-spec = tie.close (tie.spec shl-result add-result returns)
+with-mark-spec = tie.close (tie.spec (λ c. search needs) add-result returns)

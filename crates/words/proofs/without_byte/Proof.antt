@@ -6,18 +6,6 @@ use Rattle.words.proofs.Written.{one-pos, removed-fits, removed-without
 use Rattle.words.proofs.without_byte.Statement.{statement}
 use Rattle.words.proofs.without_byte.Tie as tie
 
-mul-s : tie.Need-mul-s
-mul-s c = search needs
-
-shr-result : tie.Need-shr-result
-shr-result c = search needs
-
-shl-result : tie.Need-shl-result
-shl-result c = search needs
-
-shl-result-2 : tie.Need-shl-result-2
-shl-result-2 c = search needs
-
 rem-result : tie.Need-rem-result
 rem-result c = one-pos (c .args .i * 8) (omega arith)
 
@@ -29,4 +17,4 @@ returns c = let f : c .args .w < 2 ^ 64 = omega arith in removed-without (c .arg
 
 pub without-byte-spec : {M : Type 1} → statement M
 without-byte-spec =
-    tie.close (tie.spec mul-s shr-result shl-result shl-result-2 rem-result add-result returns)
+    tie.close (tie.spec (λ c. search needs) (λ c. search needs) (λ c. search needs) (λ c. search needs) rem-result add-result returns)

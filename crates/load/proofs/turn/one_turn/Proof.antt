@@ -17,18 +17,6 @@ at-body c =
     let head = c .before .before .before .before .head-due .ensures in
     body-at (rw told at (head .says)) (rw told at (head .fits)) (c .body .ensures)
 
-head-due-requires : tie.Need-head-due-requires
-head-due-requires c κs = search needs
-
-enum-told : tie.Need-enum-told
-enum-told c = search needs
-
-enum-known-found : tie.Need-enum-known-found
-enum-known-found c = search needs
-
-enum-known-found-2 : tie.Need-enum-known-found-2
-enum-known-found-2 c = search needs
-
 body-requires : tie.Need-body-requires
 body-requires c κs = rw (c .before .found2 .given .1) at (c .before .before .before .head-due .ensures .fits) .inside
 
@@ -36,9 +24,6 @@ record-fault-requires : tie.Need-record-fault-requires
 record-fault-requires c κs =
     let h = at-body (c .before) in
     let i = c .before .before .before .before .before .before .before .pre in (h .bodied, i .room .marks-size, i .so-far .known .k-low)
-
-enum-told-2 : tie.Need-enum-told-2
-enum-told-2 c = search needs
 
 noted-requires : tie.Need-noted-requires
 noted-requires c κs = let h = at-body (c .before .before .before .before .before .before .before) in
@@ -53,9 +38,6 @@ noted-requires c κs = let h = at-body (c .before .before .before .before .befor
       room = i .room;
       sized = i .so-far .loaded .sized;
     }
-
-enum-known-finding : tie.Need-enum-known-finding
-enum-known-finding c = search needs
 
 returns : tie.Need-returns
 returns c = turn-stop (c .before .before .before .before .pre) (sym (rw (c .enum-told .given .1) at (c .before .before .head-due .ensures .says)))
@@ -82,15 +64,15 @@ pub one-turn-spec : {M : Type 1} → statement M
 one-turn-spec =
     tie.close
     (tie.spec
-    head-due-requires
-    enum-told
-    enum-known-found
-    enum-known-found-2
+    (λ c κs. search needs)
+    (λ c. search needs)
+    (λ c. search needs)
+    (λ c. search needs)
     body-requires
     record-fault-requires
-    enum-told-2
+    (λ c. search needs)
     noted-requires
-    enum-known-finding
+    (λ c. search needs)
     returns
     returns-2
     returns-3

@@ -58,9 +58,6 @@ add-t c = let d = c .before .before .before .before .before .before in omega (ar
 request-fault-requires : tie.Need-request-fault-requires Inv-loop μ-loop
 request-fault-requires c κs = (long (c .before), c .before .before .before .before .before .before .before .before .pre .2)
 
-enum-told : tie.Need-enum-told Inv-loop μ-loop
-enum-told c = search needs
-
 put-request-requires : tie.Need-put-request-requires Inv-loop μ-loop
 put-request-requires c κs = let d = c .before .before .before .before .before .before .before .before .before .before in let a = d .before .before .args in
     let e = c .before .before .before .before .before in
@@ -82,9 +79,6 @@ loop-again c = let d = c .before .before .before .before .before .before in let 
     (omega (arith, d .before .before .before .if1 .left, e .loop .inv .inside))
     (sym (d .before .before .number4 .ensures .0) ∙ d .before .if2 .left) (d .body .ensures) (clean (c .before .before)) (c .put-request .ensures)
 
-enum-told-2 : tie.Need-enum-told-2 Inv-loop μ-loop
-enum-told-2 c = search needs
-
 returns-3 : tie.Need-returns-3 Inv-loop μ-loop
 returns-3 c = c .before .before .before .before .before .before .before .before .before .loop .inv
 
@@ -104,10 +98,10 @@ requests-from-spec =
     body-requires
     add-t
     request-fault-requires
-    enum-told
+    (λ c. search needs)
     put-request-requires
     add-n
     loop-less
     loop-again
-    enum-told-2
+    (λ c. search needs)
     returns-3)

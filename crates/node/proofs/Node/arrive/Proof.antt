@@ -21,29 +21,11 @@ place : (c : tie.After-known-told) → let a = start c .args in
     youngestTag (view (a .m .now) .fixed .address) (view (a .m .now) .fixed .address (a .t)) (tagsOf (a .self .queue))
 place c = rw (c .before .found .given .1, c .before .before .before .before .before .address-of .ensures) at (c .before .before .before .youngest .ensures)
 
-append-requires : tie.Need-append-requires
-append-requires c κs = search needs
-
 returns : tie.Need-returns
 returns c =
     let s = c .before .before .before .before .before in
     let a = s .args in
     full-arrives (a .self) (a .m .now) (a .t) (a .q) (a .w) (s .pre .0) (c .append .result) (c .append .ensures) (c .before .if1 .taken)
-
-address-of-requires : tie.Need-address-of-requires
-address-of-requires c κs = search needs
-
-youngest-requires : tie.Need-youngest-requires
-youngest-requires c κs = search needs
-
-enum-known-found : tie.Need-enum-known-found
-enum-known-found c = search needs
-
-enum-told : tie.Need-enum-told
-enum-told c = search needs
-
-append-requires-2 : tie.Need-append-requires-2
-append-requires-2 c κs = search needs
 
 returns-2 : tie.Need-returns-2
 returns-2 c = let s = c .before .before .before .before .before .before .before .before .before .before .before in
@@ -52,24 +34,6 @@ returns-2 c = let s = c .before .before .before .before .before .before .before 
 
 younger-requires : tie.Need-younger-requires
 younger-requires c κs = omega (arith, youngest-below _ _ (start c .args .self .queue) (c .before .found .given .0 .0) (place c), start c .pre .1 .0 .queue)
-
-operation-at-requires : tie.Need-operation-at-requires
-operation-at-requires c κs = search needs
-
-operation-at-requires-2 : tie.Need-operation-at-requires-2
-operation-at-requires-2 c κs = search needs
-
-merge-requires : tie.Need-merge-requires
-merge-requires c κs = search needs
-
-enum-known-both : tie.Need-enum-known-both
-enum-known-both c = search needs
-
-enum-told-2 : tie.Need-enum-told-2
-enum-told-2 c = search needs
-
-append-requires-3 : tie.Need-append-requires-3
-append-requires-3 c κs = search needs
 
 returns-3 : tie.Need-returns-3
 returns-3 c = let met = c .before .before .before in
@@ -82,12 +46,6 @@ returns-3 c = let met = c .before .before .before in
     (place known) (older .younger .ensures)
     (saved .operation-at .result) (arriving .operation-at2 .result) (saved .operation-at .ensures) (arriving .operation-at2 .ensures)
     (s .pre .0) (c .append3 .result) (c .append3 .ensures) (sym (c .before .enum-told2 .given .1) ∙ met .merge .ensures)
-
-set-operation-requires : tie.Need-set-operation-requires
-set-operation-requires c κs = search needs
-
-set-operation-requires-2 : tie.Need-set-operation-requires-2
-set-operation-requires-2 c κs = search needs
 
 push-requires : tie.Need-push-requires
 push-requires c κs = let known = c .before .before .before .before .before .before .before .before .before .before .before .before .before in
@@ -114,23 +72,23 @@ pub arrive-spec : {M : Type 1} → statement M
 arrive-spec =
     tie.close
     (tie.spec
-    append-requires
+    (λ c κs. search needs)
     returns
-    address-of-requires
-    youngest-requires
-    enum-known-found
-    enum-told
-    append-requires-2
+    (λ c κs. search needs)
+    (λ c κs. search needs)
+    (λ c. search needs)
+    (λ c. search needs)
+    (λ c κs. search needs)
     returns-2
     younger-requires
-    operation-at-requires
-    operation-at-requires-2
-    merge-requires
-    enum-known-both
-    enum-told-2
-    append-requires-3
+    (λ c κs. search needs)
+    (λ c κs. search needs)
+    (λ c κs. search needs)
+    (λ c. search needs)
+    (λ c. search needs)
+    (λ c κs. search needs)
     returns-3
-    set-operation-requires
-    set-operation-requires-2
+    (λ c κs. search needs)
+    (λ c κs. search needs)
     push-requires
     returns-4)

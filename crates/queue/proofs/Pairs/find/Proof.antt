@@ -10,9 +10,6 @@ returns c =
     let l = s .args .self in
     find-none (l .firsts) (l .seconds) (l .len) (s .args .t) (c .if1 .taken)
 
-place-of-requires : tie.Need-place-of-requires
-place-of-requires c κs = search needs
-
 returns-2 : tie.Need-returns-2
 returns-2 c =
     let i = c .before .before in
@@ -28,4 +25,4 @@ returns-3 c =
     find-nowhere (l .firsts) (l .seconds) (l .len) (s .args .t) (i .place-of .result) (i .place-of .ensures) (s .pre) (c .if2 .left)
 
 pub find-spec : {M : Type 1} → statement M
-find-spec = tie.close (tie.spec returns place-of-requires returns-2 returns-3)
+find-spec = tie.close (tie.spec returns (λ c κs. search needs) returns-2 returns-3)

@@ -5,19 +5,10 @@ use Rattle.queue.proofs.Laws.{pairs-push}
 use Rattle.queue.proofs.Pairs.push.Statement.{statement}
 use Rattle.queue.proofs.Pairs.push.Tie as tie
 
-with-highest-requires : tie.Need-with-highest-requires
-with-highest-requires c κs = search needs
-
-with-highest-requires-2 : tie.Need-with-highest-requires-2
-with-highest-requires-2 c κs = search needs
-
-add-self : tie.Need-add-self
-add-self c = search needs
-
 returns : tie.Need-returns
 returns c =
     let l = c .before .before .args .self in
     (pairs-push (l .firsts) (l .seconds) (l .len) (c .before .with-highest .ensures) (c .with-highest2 .ensures), omega arith)
 
 pub push-spec : {M : Type 1} → statement M
-push-spec = tie.close (tie.spec with-highest-requires with-highest-requires-2 add-self returns)
+push-spec = tie.close (tie.spec (λ c κs. search needs) (λ c κs. search needs) (λ c. search needs) returns)

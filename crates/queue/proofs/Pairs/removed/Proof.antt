@@ -5,15 +5,6 @@ use Rattle.queue.proofs.Laws.{pairs-without}
 use Rattle.queue.proofs.Pairs.removed.Statement.{statement}
 use Rattle.queue.proofs.Pairs.removed.Tie as tie
 
-without-byte-requires : tie.Need-without-byte-requires
-without-byte-requires c κs = search needs
-
-without-byte-requires-2 : tie.Need-without-byte-requires-2
-without-byte-requires-2 c κs = search needs
-
-sub-self : tie.Need-sub-self
-sub-self c = search needs
-
 returns : tie.Need-returns
 returns c =
     let s = c .before .before .before in
@@ -23,4 +14,4 @@ returns c =
     (pairs-without (l .firsts) (l .seconds) (l .len) (s .pre .1) firsts seconds, omega (arith, s .pre .0))
 
 pub removed-spec : {M : Type 1} → statement M
-removed-spec = tie.close (tie.spec without-byte-requires without-byte-requires-2 sub-self returns)
+removed-spec = tie.close (tie.spec (λ c κs. search needs) (λ c κs. search needs) (λ c. search needs) returns)

@@ -5,16 +5,10 @@ use Rattle.queue.proofs.Laws.{tags-push}
 use Rattle.queue.proofs.Tags.push.Statement.{statement}
 use Rattle.queue.proofs.Tags.push.Tie as tie
 
-with-lowest-requires : tie.Need-with-lowest-requires
-with-lowest-requires c κs = search needs
-
-add-self : tie.Need-add-self
-add-self c = search needs
-
 returns : tie.Need-returns
 returns c =
     let s = c .before .before in
     (tags-push (s .args .self .items) (s .args .self .len) (s .pre) (c .before .with-lowest .ensures), omega arith)
 
 pub push-spec : {M : Type 1} → statement M
-push-spec = tie.close (tie.spec with-lowest-requires add-self returns)
+push-spec = tie.close (tie.spec (λ c κs. search needs) (λ c. search needs) returns)

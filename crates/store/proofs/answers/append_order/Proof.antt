@@ -5,9 +5,6 @@ use Rattle.store.proofs.Answered.{order-length, order-appended}
 use Rattle.store.proofs.answers.append_order.Statement.{statement}
 use Rattle.store.proofs.answers.append_order.Tie as tie
 
-element-copy-out-n : tie.Need-element-copy-out-n
-element-copy-out-n c = search needs
-
 add-at : tie.Need-add-at
 add-at c = omega (arith, order-length (c .before .args .m .now), c .before .pre .1)
 
@@ -16,9 +13,6 @@ mul-with-highest c = omega (arith, order-length (c .before .args .m .now), c .be
 
 element-copy-out-with-highest : tie.Need-element-copy-out-with-highest
 element-copy-out-with-highest c = omega (arith, order-length (c .before .args .m .now), c .before .pre .1)
-
-with-highest-requires : tie.Need-with-highest-requires
-with-highest-requires c κs = search needs
 
 mul-m : tie.Need-mul-m
 mul-m c = omega (arith, order-length (c .before .before .before .args .m .now), c .before .before .before .pre .1)
@@ -29,9 +23,6 @@ element-write-m c = omega (arith, order-length (c .before .before .before .args 
 add-m : tie.Need-add-m
 add-m c = omega (arith, order-length (c .before .before .before .args .m .now), c .before .before .before .pre .1)
 
-element-write-m-2 : tie.Need-element-write-m-2
-element-write-m-2 c = search needs
-
 returns : tie.Need-returns
 returns c = let s = c .before .before .before in order-appended (s .args .m .now) (s .pre .0) (s .args .t) _
     (omega (arith, order-length (s .args .m .now), s .pre .1)) (c .with-highest .ensures)
@@ -40,13 +31,13 @@ pub append-order-spec : {M : Type 1} → statement M
 append-order-spec =
     tie.close
     (tie.spec
-    element-copy-out-n
+    (λ c. search needs)
     add-at
     mul-with-highest
     element-copy-out-with-highest
-    with-highest-requires
+    (λ c κs. search needs)
     mul-m
     element-write-m
     add-m
-    element-write-m-2
+    (λ c. search needs)
     returns)

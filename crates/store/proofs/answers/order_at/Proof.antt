@@ -5,21 +5,9 @@ use Rattle.store.proofs.Answered.{order-here}
 use Rattle.store.proofs.answers.order_at.Statement.{statement}
 use Rattle.store.proofs.answers.order_at.Tie as tie
 
-add-byte-at : tie.Need-add-byte-at
-add-byte-at c = search needs
-
-mul-byte-at : tie.Need-mul-byte-at
-mul-byte-at c = search needs
-
-element-copy-out-byte-at : tie.Need-element-copy-out-byte-at
-element-copy-out-byte-at c = search needs
-
-byte-at-requires : tie.Need-byte-at-requires
-byte-at-requires c κs = search needs
-
 returns : tie.Need-returns
 returns c = let s = c .before .before in c .byte-at .ensures ∙ sym (order-here (s .args .m .now) (s .args .i) (s .pre .0) (s .pre .1))
 
 pub order-at-spec : {M : Type 1} → statement M
 order-at-spec =
-    tie.close (tie.spec add-byte-at mul-byte-at element-copy-out-byte-at byte-at-requires returns)
+    tie.close (tie.spec (λ c. search needs) (λ c. search needs) (λ c. search needs) (λ c κs. search needs) returns)

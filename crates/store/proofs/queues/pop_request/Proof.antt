@@ -5,26 +5,11 @@ use Rattle.store.proofs.Queued.{requests-length, request-popped}
 use Rattle.store.proofs.queues.pop_request.Statement.{statement}
 use Rattle.store.proofs.queues.pop_request.Tie as tie
 
-add-row : tie.Need-add-row
-add-row c = search needs
-
-mul-one-less : tie.Need-mul-one-less
-mul-one-less c = search needs
-
-element-copy-out-one-less : tie.Need-element-copy-out-one-less
-element-copy-out-one-less c = search needs
-
 one-less-requires : tie.Need-one-less-requires
 one-less-requires c κs =
     let s = c .before in
     let on = s .pre .1 .0 in
     (on .2, omega (arith, requests-length (s .args .m .now) (s .args .level) (s .args .position) (on .1, on .2) (on .0), s .pre .1 .1))
-
-mul-m : tie.Need-mul-m
-mul-m c = search needs
-
-element-write-m : tie.Need-element-write-m
-element-write-m c = search needs
 
 returns : tie.Need-returns
 returns c =
@@ -36,10 +21,10 @@ pub pop-request-spec : {M : Type 1} → statement M
 pop-request-spec =
     tie.close
     (tie.spec
-    add-row
-    mul-one-less
-    element-copy-out-one-less
+    (λ c. search needs)
+    (λ c. search needs)
+    (λ c. search needs)
     one-less-requires
-    mul-m
-    element-write-m
+    (λ c. search needs)
+    (λ c. search needs)
     returns)

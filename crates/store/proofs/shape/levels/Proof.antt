@@ -5,12 +5,9 @@ use Rattle.store.specs.Inner.Memory.{view, fixedIn}
 use Rattle.store.proofs.shape.levels.Statement.{statement}
 use Rattle.store.proofs.shape.levels.Tie as tie
 
-element-copy-out-result : tie.Need-element-copy-out-result
-element-copy-out-result c = search needs
-
 returns : tie.Need-returns
 unfolding view fixedIn
 returns c = refl
 
 pub levels-spec : {M : Type 1} → statement M
-levels-spec = tie.close (tie.spec element-copy-out-result returns)
+levels-spec = tie.close (tie.spec (λ c. search needs) returns)

@@ -5,11 +5,8 @@ use Rattle.store.proofs.Answered.{order-length}
 use Rattle.store.proofs.shape.ordered.Statement.{statement}
 use Rattle.store.proofs.shape.ordered.Tie as tie
 
-element-copy-out-result : tie.Need-element-copy-out-result
-element-copy-out-result c = search needs
-
 returns : tie.Need-returns
 returns c = sym (order-length (c .before .args .m .now))
 
 pub ordered-spec : {M : Type 1} → statement M
-ordered-spec = tie.close (tie.spec element-copy-out-result returns)
+ordered-spec = tie.close (tie.spec (λ c. search needs) returns)

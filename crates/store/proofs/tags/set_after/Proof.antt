@@ -4,24 +4,6 @@ use Rattle.store.proofs.Tagged.{after-set}
 use Rattle.store.proofs.tags.set_after.Statement.{statement}
 use Rattle.store.proofs.tags.set_after.Tie as tie
 
-add-at : tie.Need-add-at
-add-at c = search needs
-
-mul-with-after : tie.Need-mul-with-after
-mul-with-after c = search needs
-
-element-copy-out-with-after : tie.Need-element-copy-out-with-after
-element-copy-out-with-after c = search needs
-
-with-after-requires : tie.Need-with-after-requires
-with-after-requires c κs = search needs
-
-mul-m : tie.Need-mul-m
-mul-m c = search needs
-
-element-write-m : tie.Need-element-write-m
-element-write-m c = search needs
-
 returns : tie.Need-returns
 returns c =
     let s = c .before .before in
@@ -31,10 +13,10 @@ pub set-after-spec : {M : Type 1} → statement M
 set-after-spec =
     tie.close
     (tie.spec
-    add-at
-    mul-with-after
-    element-copy-out-with-after
-    with-after-requires
-    mul-m
-    element-write-m
+    (λ c. search needs)
+    (λ c. search needs)
+    (λ c. search needs)
+    (λ c κs. search needs)
+    (λ c. search needs)
+    (λ c. search needs)
     returns)

@@ -10,27 +10,15 @@ use Rattle.trace.proofs.acts.act_at.Tie as tie
 returns : tie.Need-returns
 returns c = record { is = λ left l. read-end _ _ left l (c .if1 .taken) }
 
-add-if2 : tie.Need-add-if2
-add-if2 c = search needs
-
 shared-slice-read-if2 : tie.Need-shared-slice-read-if2
 shared-slice-read-if2 c = omega (arith, act-room _ _ _ (c .before .before .before .pre .are-left) (c .before .if1 .left))
-
-add-t7 : tie.Need-add-t7
-add-t7 c = search needs
 
 shared-slice-read-t9 : tie.Need-shared-slice-read-t9
 shared-slice-read-t9 c = omega (arith, act-room _ _ _ (c .before .before .before .before .before .pre .are-left) (c .before .before .before .if1 .left))
 
-add-t10 : tie.Need-add-t10
-add-t10 c = search needs
-
 shared-slice-read-t12 : tie.Need-shared-slice-read-t12
 shared-slice-read-t12 c =
     let d = c .before .before .before .before in omega (arith, act-room _ _ _ (d .before .before .pre .are-left) (d .if1 .left))
-
-add-t13 : tie.Need-add-t13
-add-t13 c = search needs
 
 shared-slice-read-t15 : tie.Need-shared-slice-read-t15
 shared-slice-read-t15 c =
@@ -39,9 +27,6 @@ shared-slice-read-t15 c =
 
 returns-2 : tie.Need-returns-2
 returns-2 c = record { is = λ left l. read-event _ _ left l (c .before .before .before .before .before .if1 .left) (c .before .before .before .if2 .taken) }
-
-add-number2 : tie.Need-add-number2
-add-number2 c = search needs
 
 number2-requires : tie.Need-number2-requires
 number2-requires c κs = omega (arith, act-room _ _ _ (c .before .before .before .before .pre .are-left) (c .before .before .if1 .left))
@@ -54,15 +39,15 @@ act-at-spec =
     tie.close
     (tie.spec
     returns
-    add-if2
+    (λ c. search needs)
     shared-slice-read-if2
-    add-t7
+    (λ c. search needs)
     shared-slice-read-t9
-    add-t10
+    (λ c. search needs)
     shared-slice-read-t12
-    add-t13
+    (λ c. search needs)
     shared-slice-read-t15
     returns-2
-    add-number2
+    (λ c. search needs)
     number2-requires
     returns-3)

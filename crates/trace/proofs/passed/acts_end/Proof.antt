@@ -17,9 +17,6 @@ abbrev μ-loop : tie.MeasureT-loop
 fixed-bits-requires : tie.Need-fixed-bits-requires Inv-loop μ-loop
 fixed-bits-requires c κs = omega arith
 
-steps-of-requires : tie.Need-steps-of-requires Inv-loop μ-loop
-steps-of-requires c κs = search needs
-
 loop-holds : tie.Need-loop-holds Inv-loop μ-loop
 loop-holds c = passed-start _ _ _ (c .before .before .before .pre .0)
 
@@ -31,9 +28,6 @@ returns c = c .before .loop .inv
 
 number8-requires : tie.Need-number8-requires Inv-loop μ-loop
 number8-requires c κs = omega arith
-
-is-event-requires : tie.Need-is-event-requires Inv-loop μ-loop
-is-event-requires c κs = search needs
 
 add-i : tie.Need-add-i Inv-loop μ-loop
 add-i c = omega arith
@@ -72,12 +66,12 @@ acts-end-spec =
     Inv-loop
     μ-loop
     fixed-bits-requires
-    steps-of-requires
+    (λ c κs. search needs)
     loop-holds
     sub-if1
     returns
     number8-requires
-    is-event-requires
+    (λ c κs. search needs)
     add-i
     loop-less
     loop-again

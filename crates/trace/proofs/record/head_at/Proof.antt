@@ -7,35 +7,11 @@ use Rattle.trace.proofs.Records.{Header, split-at, header-split, told-i
 use Rattle.trace.proofs.record.head_at.Statement.{statement}
 use Rattle.trace.proofs.record.head_at.Tie as tie
 
-sub-left : tie.Need-sub-left
-sub-left c = search needs
-
 returns : tie.Need-returns
 returns c = record { says = simp (split-at, eq-eqb _ _ (c .if1 .taken)); fits = tt }
 
 returns-2 : tie.Need-returns-2
 returns-2 c = record { says = simp (split-at, ne-eqb _ _ (c .before .if1 .left), lt-ltb _ _ (c .if2 .taken)); fits = tt }
-
-number2-requires : tie.Need-number2-requires
-number2-requires c κs = search needs
-
-add-number2 : tie.Need-add-number2
-add-number2 c = search needs
-
-number2-requires-2 : tie.Need-number2-requires-2
-number2-requires-2 c κs = search needs
-
-row-told-requires : tie.Need-row-told-requires
-row-told-requires c κs = search needs
-
-enum-told : tie.Need-enum-told
-enum-told c = search needs
-
-enum-told-2 : tie.Need-enum-told-2
-enum-told-2 c = search needs
-
-enum-known-row : tie.Need-enum-known-row
-enum-known-row c = search needs
 
 -- the header as it is read
 header : (d : tie.After-row-told) → let e = d .before .before .before .before .before .before in
@@ -75,16 +51,16 @@ pub head-at-spec : {M : Type 1} → statement M
 head-at-spec =
     tie.close
     (tie.spec
-    sub-left
+    (λ c. search needs)
     returns
     returns-2
-    number2-requires
-    add-number2
-    number2-requires-2
-    row-told-requires
-    enum-told
-    enum-told-2
-    enum-known-row
+    (λ c κs. search needs)
+    (λ c. search needs)
+    (λ c κs. search needs)
+    (λ c κs. search needs)
+    (λ c. search needs)
+    (λ c. search needs)
+    (λ c. search needs)
     returns-3
     returns-4
     returns-5

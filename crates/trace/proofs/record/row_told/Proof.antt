@@ -10,21 +10,6 @@ use Rattle.trace.proofs.Table.{one-listed}
 use Rattle.trace.proofs.record.row_told.Statement.{statement}
 use Rattle.trace.proofs.record.row_told.Tie as tie
 
-sized-requires : tie.Need-sized-requires
-sized-requires c κs = search needs
-
-sized-requires-2 : tie.Need-sized-requires-2
-sized-requires-2 c κs = search needs
-
-sized-requires-3 : tie.Need-sized-requires-3
-sized-requires-3 c κs = search needs
-
-sized-requires-4 : tie.Need-sized-requires-4
-sized-requires-4 c κs = search needs
-
-sized-requires-5 : tie.Need-sized-requires-5
-sized-requires-5 c κs = search needs
-
 returns : tie.Need-returns
 unfolding listing rows firstRow kindRow bodyRow total
 returns c = c .sized .ensures ∙ rw (c .before .match .keys1) (one-listed (eqb (c .before .before .args .len) 3) shapeRow refl)
@@ -53,4 +38,4 @@ returns-6 c = let r = c .match .rest in
 pub row-told-spec : {M : Type 1} → statement M
 row-told-spec =
     tie.close
-    (tie.spec sized-requires sized-requires-2 sized-requires-3 sized-requires-4 sized-requires-5 returns returns-2 returns-3 returns-4 returns-5 returns-6)
+    (tie.spec (λ c κs. search needs) (λ c κs. search needs) (λ c κs. search needs) (λ c κs. search needs) (λ c κs. search needs) returns returns-2 returns-3 returns-4 returns-5 returns-6)

@@ -5,9 +5,6 @@ use Rattle.trace.proofs.Table.{section-item}
 use Rattle.trace.proofs.rules.record_fault.Statement.{statement}
 use Rattle.trace.proofs.rules.record_fault.Tie as tie
 
-may-follow-requires : tie.Need-may-follow-requires
-may-follow-requires c κs = search needs
-
 own-fault-requires : tie.Need-own-fault-requires
 own-fault-requires c κs = let pre = c .before .before .before .pre in (pre .0 .right, pre .1, pre .2)
 
@@ -28,4 +25,4 @@ returns-2 c = record {
 pub record-fault-spec : {M : Type 1} → statement M
 record-fault-spec =
     tie.close
-    (tie.spec may-follow-requires own-fault-requires returns returns-2)
+    (tie.spec (λ c κs. search needs) own-fault-requires returns returns-2)

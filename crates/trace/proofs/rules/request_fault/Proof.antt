@@ -14,30 +14,12 @@ returns : tie.Need-returns
 unfolding requestFits orElse
 returns c = simp (le-ltb _ _ (c .if1 .taken))
 
-shared-slice-read-if2 : tie.Need-shared-slice-read-if2
-shared-slice-read-if2 c = search needs
-
 cast-if2 : tie.Need-cast-if2
 cast-if2 c = omega (arith, c .shared-slice-known2 .given 0)
-
-width-requires : tie.Need-width-requires
-width-requires c κs = search needs
 
 returns-2 : tie.Need-returns-2
 unfolding requestFits orElse
 returns-2 c = simp (lt-ltb _ _ (c .before .before .before .if1 .left), ← (c .before .width .ensures .0), le-ltb _ _ (c .if2 .taken))
-
-shared-slice-read-operands-fit : tie.Need-shared-slice-read-operands-fit
-shared-slice-read-operands-fit c = search needs
-
-number8-requires : tie.Need-number8-requires
-number8-requires c κs = search needs
-
-number8-requires-2 : tie.Need-number8-requires-2
-number8-requires-2 c κs = search needs
-
-operands-fit-requires : tie.Need-operands-fit-requires
-operands-fit-requires c κs = search needs
 
 -- past the tests of the tag and of the engine, the operands decide
 operands-decide : (c : tie.After-operands-fit) →
@@ -61,13 +43,13 @@ request-fault-spec =
     tie.close
     (tie.spec
     returns
-    shared-slice-read-if2
+    (λ c. search needs)
     cast-if2
-    width-requires
+    (λ c κs. search needs)
     returns-2
-    shared-slice-read-operands-fit
-    number8-requires
-    number8-requires-2
-    operands-fit-requires
+    (λ c. search needs)
+    (λ c κs. search needs)
+    (λ c κs. search needs)
+    (λ c κs. search needs)
     returns-3
     returns-4)

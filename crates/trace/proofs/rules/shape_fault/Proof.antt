@@ -3,18 +3,6 @@ use borrow.Author.Needs.{needs}
 use Rattle.trace.proofs.rules.shape_fault.Statement.{statement}
 use Rattle.trace.proofs.rules.shape_fault.Tie as tie
 
-shared-slice-read-shape-fits : tie.Need-shared-slice-read-shape-fits
-shared-slice-read-shape-fits c = search needs
-
-shared-slice-read-shape-fits-2 : tie.Need-shared-slice-read-shape-fits-2
-shared-slice-read-shape-fits-2 c = search needs
-
-shared-slice-read-shape-fits-3 : tie.Need-shared-slice-read-shape-fits-3
-shared-slice-read-shape-fits-3 c = search needs
-
-shape-fits-requires : tie.Need-shape-fits-requires
-shape-fits-requires c κs = search needs
-
 returns : tie.Need-returns
 returns c = simp (← (c .before .shape-fits .ensures), c .if1 .taken)
 
@@ -25,9 +13,9 @@ pub shape-fault-spec : {M : Type 1} → statement M
 shape-fault-spec =
     tie.close
     (tie.spec
-    shared-slice-read-shape-fits
-    shared-slice-read-shape-fits-2
-    shared-slice-read-shape-fits-3
-    shape-fits-requires
+    (λ c. search needs)
+    (λ c. search needs)
+    (λ c. search needs)
+    (λ c κs. search needs)
     returns
     returns-2)

@@ -5,9 +5,6 @@ use borrow.Author.Needs.{needs}
 use Rattle.trace.proofs.rules.word_fault.Statement.{statement}
 use Rattle.trace.proofs.rules.word_fault.Tie as tie
 
-shared-slice-read-a : tie.Need-shared-slice-read-a
-shared-slice-read-a c = search needs
-
 cast-a : tie.Need-cast-a
 cast-a c = omega (arith, c .shared-slice-known .given 0)
 
@@ -22,4 +19,4 @@ returns-2 c = simp (ne-eqb _ _ (c .if1 .left))
 
 pub word-fault-spec : {M : Type 1} → statement M
 word-fault-spec =
-    tie.close (tie.spec shared-slice-read-a cast-a element-copy-out-if1 returns returns-2)
+    tie.close (tie.spec (λ c. search needs) cast-a element-copy-out-if1 returns returns-2)

@@ -4,18 +4,6 @@ use borrow.Author.Needs.{needs}
 use Rattle.trace.proofs.progress.Progress.past.Statement.{statement}
 use Rattle.trace.proofs.progress.Progress.past.Tie as tie
 
-add-self : tie.Need-add-self
-add-self c = search needs
-
-add-self-2 : tie.Need-add-self-2
-add-self-2 c = search needs
-
-add-self-3 : tie.Need-add-self-3
-add-self-3 c = search needs
-
-add-self-4 : tie.Need-add-self-4
-add-self-4 c = search needs
-
 returns : tie.Need-returns
 returns c = simp (le-ltb _ _ (c .if1 .taken))
 
@@ -23,4 +11,4 @@ returns-2 : tie.Need-returns-2
 returns-2 c = simp (lt-ltb _ _ (c .before .if1 .left))
 
 pub past-spec : {M : Type 1} → statement M
-past-spec = tie.close (tie.spec add-self add-self-2 returns add-self-3 add-self-4 returns-2)
+past-spec = tie.close (tie.spec (λ c. search needs) (λ c. search needs) returns (λ c. search needs) (λ c. search needs) returns-2)
