@@ -2,7 +2,7 @@ use mathlib.Core.Path.{_∙_, ap}
 use native.Mathlib.Omega.{arith}
 use borrow.Author.Needs.{needs}
 use Rattle.trace.specs.declared.acts.Due.the-variants.{Drain}
-use Rattle.trace.proofs.ActsLeft.{act-room, event-room, read-end, read-event, read-drain}
+use Rattle.trace.proofs.ActsLeft.{act-room, event-room, drain-room, read-end, read-event, read-drain}
 use Rattle.trace.proofs.acts.act_at.Statement.{statement}
 use Rattle.trace.proofs.acts.act_at.Tie as tie
 
@@ -19,13 +19,13 @@ add-t7 : tie.Need-add-t7
 add-t7 c = search needs
 
 shared-slice-read-t9 : tie.Need-shared-slice-read-t9
-shared-slice-read-t9 c = omega (arith, act-room _ _ _ (c .before .before .before .before .before .pre .are-left) (c .before .before .before .if1 .left))
+shared-slice-read-t9 c = omega (arith, event-room _ _ _ (c .before .before .before .before .before .pre .are-left) (c .before .before .before .if1 .left) (c .before .if2 .taken))
 
 add-t10 : tie.Need-add-t10
 add-t10 c = search needs
 
 shared-slice-read-t12 : tie.Need-shared-slice-read-t12
-shared-slice-read-t12 c = omega (arith, act-room _ _ _ (c .before .before .before .before .before .before .pre .are-left) (c .before .before .before .before .if1 .left))
+shared-slice-read-t12 c = omega (arith, event-room _ _ _ (c .before .before .before .before .before .before .pre .are-left) (c .before .before .before .before .if1 .left) (c .before .before .if2 .taken))
 
 add-t13 : tie.Need-add-t13
 add-t13 c = search needs
@@ -40,7 +40,7 @@ add-number2 : tie.Need-add-number2
 add-number2 c = search needs
 
 number2-requires : tie.Need-number2-requires
-number2-requires c κs = omega (arith, act-room _ _ _ (c .before .before .before .before .pre .are-left) (c .before .before .if1 .left))
+number2-requires c κs = omega (arith, drain-room _ _ _ (c .before .before .before .before .pre .are-left) (c .before .before .if1 .left) (c .if2 .left))
 
 returns-3 : tie.Need-returns-3
 returns-3 c = record { is = λ left l. ap Drain (c .number2 .ensures .0) ∙ read-drain _ _ left l (c .before .before .before .if1 .left) (c .before .if2 .left) }
