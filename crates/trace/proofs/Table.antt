@@ -111,8 +111,8 @@ pub record ItemRight (x : Item) : Type 0 where
   pub made : rowOf x .make (partsOf x .fields) ≡ x
 
 -- where its row is the one that is found by kind and length
-in-table : (x : Item) → bodyRow (rowOf x .kind) (bodySize (rowOf x)) ≡ rowOf x → isRow (rowOf x) ≡ true → length (partsOf x .fields) ≡ length (rowOf x .widths) →
-    rowOf x .make (partsOf x .fields) ≡ x → ItemRight x
+in-table : (x : Item) → bodyRow (rowOf x .kind) (bodySize (rowOf x)) ≡ rowOf x → isRow (rowOf x) ≡ true →
+    length (partsOf x .fields) ≡ length (rowOf x .widths) → rowOf x .make (partsOf x .fields) ≡ x → ItemRight x
 in-table x found is many made =
     record { row-right = subst RowRight found (row-told (rowOf x .kind) (bodySize (rowOf x)) (rw found is) .right); many = many; made = made }
 

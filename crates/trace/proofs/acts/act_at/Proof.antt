@@ -1,3 +1,4 @@
+-- `act_at` meets its contract: the end, or the act that the low byte of its kind tells.
 use mathlib.Core.Path.{_∙_, ap}
 use native.Mathlib.Omega.{arith}
 use borrow.Author.Needs.{needs}
@@ -19,19 +20,22 @@ add-t7 : tie.Need-add-t7
 add-t7 c = search needs
 
 shared-slice-read-t9 : tie.Need-shared-slice-read-t9
-shared-slice-read-t9 c = omega (arith, event-room _ _ _ (c .before .before .before .before .before .pre .are-left) (c .before .before .before .if1 .left) (c .before .if2 .taken))
+shared-slice-read-t9 c = let d = c .before in
+    omega (arith, event-room _ _ _ (d .before .before .before .before .pre .are-left) (d .before .before .if1 .left) (d .if2 .taken))
 
 add-t10 : tie.Need-add-t10
 add-t10 c = search needs
 
 shared-slice-read-t12 : tie.Need-shared-slice-read-t12
-shared-slice-read-t12 c = omega (arith, event-room _ _ _ (c .before .before .before .before .before .before .pre .are-left) (c .before .before .before .before .if1 .left) (c .before .before .if2 .taken))
+shared-slice-read-t12 c = let d = c .before .before in
+    omega (arith, event-room _ _ _ (d .before .before .before .before .pre .are-left) (d .before .before .if1 .left) (d .if2 .taken))
 
 add-t13 : tie.Need-add-t13
 add-t13 c = search needs
 
 shared-slice-read-t15 : tie.Need-shared-slice-read-t15
-shared-slice-read-t15 c = omega (arith, event-room _ _ _ (c .before .before .before .before .before .before .before .pre .are-left) (c .before .before .before .before .before .if1 .left) (c .before .before .before .if2 .taken))
+shared-slice-read-t15 c = let d = c .before .before .before in
+    omega (arith, event-room _ _ _ (d .before .before .before .before .pre .are-left) (d .before .before .if1 .left) (d .if2 .taken))
 
 returns-2 : tie.Need-returns-2
 returns-2 c = record { is = λ left l. read-event _ _ left l (c .before .before .before .before .before .if1 .left) (c .before .before .before .if2 .taken) }
