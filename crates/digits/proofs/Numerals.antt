@@ -11,7 +11,8 @@ use borrow.Author.Tests.{lt-ltb, le-ltb}
 use Rattle.lists.specs.Search.{All, nil, cons}
 use Rattle.lists.proofs.Tests.{by-cases}
 use Rattle.lists.proofs.Every.{all-append}
-use Rattle.digits.specs.Numeral.{digit, numeralIn, numeral, decimal, valueFrom, valueIn}
+use Rattle.digits.specs.Numeral.{digit, numeralIn, numeral, decimal}
+use Rattle.digits.specs.Inner.Value.{binary, valueFrom, valueIn}
 
 valueFrom-append : (base n : ℕ) (ds es : List ℕ) → valueFrom base n (ds ++ es) ≡ valueFrom base (valueFrom base n ds) es
 unfolding valueFrom
@@ -72,7 +73,7 @@ module _ (base : ℕ) (two : 2 ≤ base) where
   numeral-some = numeral-ind (λ n l. 1 ≤ length l) (λ n h. omega arith) (λ n h s. rw length-append (omega arith))
 
   -- a number below base ^ k has at most k digits
-  pub numeral-length : (k n : ℕ) → n < base ^ suc k → length (numeral base n) ≤ suc k
+  numeral-length : (k n : ℕ) → n < base ^ suc k → length (numeral base n) ≤ suc k
   numeral-length zero n h = rw (numeral-one n (rw (pow-suc, pow-zero, one-mul) at h)) (omega arith)
   numeral-length (suc k) n h =
       by-cases (decLt n base)
@@ -110,3 +111,8 @@ module _ (base : ℕ) (two : 2 ≤ base) where
 -- 64 bits have at most 20 digits
 pub decimal-word : (n : ℕ) → n < 2 ^ 64 → length (decimal n) ≤ 20
 decimal-word n h = numeral-length 10 (omega arith) 19 n (omega arith)
+
+-- No. 13's "shortest binary": no zero in front
+pub binary-four : binary 4 ≡ digit 1 ∷ digit 0 ∷ digit 0 ∷ []
+unfolding numeral numeralIn
+binary-four = refl

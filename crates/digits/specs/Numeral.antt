@@ -1,5 +1,5 @@
 -- Texts as bytes, and numbers to a base of 2 to 10 as texts: document 01, "A session given whole".
-use Prim.Native.Nat.{ℕ, zero, suc, _+_, _*_, _-_, _/_, _%_}
+use Prim.Native.Nat.{ℕ, zero, suc, _+_, _/_, _%_}
 use Prim.Native.Char.{code}
 use Prim.Native.String.{String}
 use mathlib.Core.Bool.{true, false}
@@ -29,14 +29,3 @@ numeral base n = numeralIn base (suc n) n
 -- "value in decimal"
 abbrev pub decimal : ℕ → List ℕ
 decimal = numeral 10
-
-abbrev pub binary : ℕ → List ℕ
-binary = numeral 2
-
--- the number that digits spell, behind those that spell n
-unfoldable pub valueFrom : ℕ → ℕ → List ℕ → ℕ
-valueFrom base n [] = n
-valueFrom base n (d ∷ ds) = valueFrom base (n * base + (d - digit 0)) ds
-
-abbrev pub valueIn : ℕ → List ℕ → ℕ
-valueIn base = valueFrom base 0

@@ -32,10 +32,12 @@ one-level m level =
     (λ (h : level < m). simp (ne-eqb level m n, lt-leb m level h))
     (λ (h : ¬ (level < m)). simp (ne-eqb level m n, le-leb m level (omega arith), le-ltb level (m + 1) (omega arith))))
 
-pub level-range : (k what level : ℕ) → what ≤ 4 → levelFits k what level ≡ both (leb (getD (firstLevels k) what 0) level) (ltb level (getD (levelEnds k) what 0))
+pub level-range : (k what level : ℕ) → what ≤ 4 →
+    levelFits k what level ≡ both (leb (getD (firstLevels k) what 0) level) (ltb level (getD (levelEnds k) what 0))
 unfolding levelFits
 level-range k what level few = by-what what
-    (λ e. rw e (one-level 0 level)) (λ e. rw e) (λ e. rw e (one-level k level)) (λ e. rw e (rw (add-one k, leb·suc-suc level k))) (λ e. rw e (one-level 0 level))
+    (λ e. rw e (one-level 0 level)) (λ e. rw e) (λ e. rw e (one-level k level))
+    (λ e. rw e (rw (add-one k, leb·suc-suc level k))) (λ e. rw e (one-level 0 level))
     (λ more. absurd (omega arith))
 
 -- an event that names a step stands at one of the N positions of one of the levels

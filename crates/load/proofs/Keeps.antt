@@ -44,7 +44,8 @@ loaded-same same loaded = record {
 }
 
 -- before a shape that is not refused stands no request
-first : (before : Items) (s : Shape) → fault before (shape s) ≡ 0 → {v : View} → RequestsHeld (shapeOf before .k) (requestsOf before) v → RequestsHeld (s .k) (requestsOf before) v
+first : (before : Items) (s : Shape) → fault before (shape s) ≡ 0 → {v : View} → RequestsHeld (shapeOf before .k) (requestsOf before) v →
+    RequestsHeld (s .k) (requestsOf before) v
 unfolding contents
 first before s f h = let e = shape-first before s f in rw e (held-none (rw e at h))
 
@@ -73,7 +74,8 @@ module _ {p : Progress} {marks words m : List ℕ} (room : Room p marks words) w
     loaded = λ before known loaded f. record { words-are = loaded .words-are; sized = loaded .sized; requests-are = first before s f (loaded .requests-are) };
   }
 
-  pub keeps-word : (w : Word) → w .address < 256 → Keeps (word w) p marks words m (movedPast p (word w)) (set marks (w .address) 1) (set words (w .address) (w .value)) m
+  pub keeps-word : (w : Word) → w .address < 256 →
+      Keeps (word w) p marks words m (movedPast p (word w)) (set marks (w .address) 1) (set words (w .address) (w .value)) m
   unfolding recordSize size lastSection contents add actsAt
   keeps-word w low = record {
     at-is = omega arith;
@@ -101,7 +103,8 @@ module _ {p : Progress} {marks words m : List ℕ} (room : Room p marks words) w
     };
   }
 
-  pub keeps-request : (r : Request) → p .requests < 256 → (m′ : List ℕ) → RequestPut (p .k) r (p .requests) m m′ → Keeps (request r) p marks words m (asked (movedPast p (request r))) marks words m′
+  pub keeps-request : (r : Request) → p .requests < 256 → (m′ : List ℕ) → RequestPut (p .k) r (p .requests) m m′ →
+      Keeps (request r) p marks words m (asked (movedPast p (request r))) marks words m′
   unfolding recordSize size lastSection contents add actsAt
   keeps-request r few m′ put = record {
     at-is = omega arith;

@@ -26,7 +26,8 @@ none-held k e = rw e (record { each = λ t low. absurd (omega arith); elsewhere 
 pub held-none : {k k′ : ℕ} {v : View} → RequestsHeld k [] v → RequestsHeld k′ [] v
 held-none h = record { each = λ t low. absurd (omega arith); elsewhere = h .elsewhere }
 
-module _ {k : ℕ} {rs : List Request} {v : View} (h : RequestsHeld k rs v) (r : Request) (path : ℕ) (p : PathOf k (r .engine) (moduleOf k (r .address)) path) where
+module _ {k : ℕ} {rs : List Request} {v : View} (h : RequestsHeld k rs v) (r : Request) (path : ℕ)
+    (p : PathOf k (r .engine) (moduleOf k (r .address)) path) where
   abbrev after : View
   after = withRequest v (length rs) (r .address) path (askedBy r)
 
@@ -58,5 +59,6 @@ module _ {k : ℕ} {rs : List Request} {v : View} (h : RequestsHeld k rs v) (r :
   }
 
 -- the request of the next tag is put behind the others
-pub put-held : {k : ℕ} {rs : List Request} {m m′ : List ℕ} {r : Request} → RequestsHeld k rs (view m) → RequestPut k r (length rs) m m′ → RequestsHeld k (rs ++ (r ∷ [])) (view m′)
+pub put-held : {k : ℕ} {rs : List Request} {m m′ : List ℕ} {r : Request} → RequestsHeld k rs (view m) → RequestPut k r (length rs) m m′ →
+    RequestsHeld k (rs ++ (r ∷ [])) (view m′)
 put-held {r = r} h put = rw (put .becomes .holds) (held-more h r (put .path) (put .path-is))

@@ -27,5 +27,9 @@ loaded-refused {s} {f} {at} l = go (check s) refl (l .answer)
     offset-is n m h = cc
 
     go : (v : Verdict) → check s ≡ v → refusal (numberOf f) at ≡ answered v → Closed s f at
-    go (refused n before) e a = record { before = before; refuses = e ∙ ap (λ (m : ℕ). refused m before) (sym (number-is n (size before) a)); at-is = offset-is n (size before) a }
+    go (refused n before) e a = record {
+      before = before;
+      refuses = e ∙ ap (λ (m : ℕ). refused m before) (sym (number-is n (size before) a));
+      at-is = offset-is n (size before) a;
+    }
     go (accepted xs) e a = clash (cc)

@@ -58,7 +58,9 @@ pub requests-one-more : {s : List ℕ} {p : Progress} {n : ℕ} {m m′ m″ b :
 unfolding rows firstRow bodyRow total partsOf
 requests-one-more {s} {p} {n} {m} {m′} {m″} {b} are passed room header is clean put =
     let whole-is = is-whole (header-whole are (p .at + 23 * n) 3 19 refl header (omega arith)) in
-    let h = body-at {s = s} {at = p .at + 23 * n} {kind = 3} {section = 3} {size = 19} (sym whole-is) (record { inside = omega arith; right = refl; section-is = refl }) is in
+    let h =
+    body-at {s = s} {at = p .at + 23 * n} {kind = 3} {section = 3} {size = 19} (sym whole-is)
+    (record { inside = omega arith; right = refl; section-is = refl }) is in
     let said = says-request b refl (h .bodied .right) in
     record {
       inside = omega arith;
@@ -70,7 +72,8 @@ requests-one-more {s} {p} {n} {m} {m′} {m″} {b} are passed room header is cl
           (rw (said .is) (keeps-request (j .room) (requestIn b) (request-right (p .k) (p .requests + n) (requestIn b) clean .0) m″ put)) .1);
     }
 
-pub requests-onward : {s : List ℕ} {p : Progress} {n : ℕ} {m m′ : List ℕ} → RequestsPassed s p n m m′ → p .section ≡ 3 → RequestsOnward s p m (pastRequests p n) m′
+pub requests-onward : {s : List ℕ} {p : Progress} {n : ℕ} {m m′ : List ℕ} → RequestsPassed s p n m m′ → p .section ≡ 3 →
+    RequestsOnward s p m (pastRequests p n) m′
 requests-onward passed section-is = record { onward = omega arith; inside = passed .run section-is }
 
 pub no-requests : (s : List ℕ) (p : Progress) (m : List ℕ) → RequestsOnward s p m p m

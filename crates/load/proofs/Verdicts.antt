@@ -64,10 +64,13 @@ module _ {s : List ℕ} {p : Progress} {marks words m : List ℕ} (i : Inside s 
     pub turn-fault : (f : Fault) → RecordFault p marks (item kind b) (Faulty f) → TurnRight s p marks words m (Fail f)
     turn-fault f found =
         let r = i .so-far in
-        decided-as r (check-whole (r .before) (drop (p .at) s) kind b e ∙ rw (← (found .is (r .before) (r .known))) (decide-some (numberOf f) (r .before) _ (λ e. omega (arith, e, number-range f .0))))
+        let some-fault : numberOf f ≢ 0 = λ e. omega (arith, e, number-range f .0) in
+        decided-as r (check-whole (r .before) (drop (p .at) s) kind b e
+        ∙ rw (← (found .is (r .before) (r .known))) (decide-some (numberOf f) (r .before) _ some-fault))
 
     -- a request that is not refused has an engine, and room
-    pub clean-request : {section : ℕ} → Bodied kind section b → RecordFault p marks (item kind b) Clean → kind ≡ 3 → (p .requests < 256) × (getD b 0 0 < 2 ^ p .k)
+    pub clean-request : {section : ℕ} → Bodied kind section b → RecordFault p marks (item kind b) Clean → kind ≡ 3 →
+        (p .requests < 256) × (getD b 0 0 < 2 ^ p .k)
     clean-request bodied found k =
         let r = i .so-far in
         let said = says-request b k (bodied .right) in
@@ -136,7 +139,8 @@ inside-start s short = record {
 
 -- the ways out
 loaded-as : {s : List ℕ} {r : Answer} {marks words m : List ℕ} (v : Verdict) → check s ≡ v → tells r ≡ answered v
-    → length marks ≡ 256 → ((a : ℕ) → a < 256 → getD marks a 0 ≡ choose (given (wordsGiven (itemsOf v)) a) 1 0) → LoadedSoFar (itemsOf v) words m → Loaded s r marks words m
+    → length marks ≡ 256 → ((a : ℕ) → a < 256 → getD marks a 0 ≡ choose (given (wordsGiven (itemsOf v)) a) 1 0)
+    → LoadedSoFar (itemsOf v) words m → Loaded s r marks words m
 loaded-as v e answer sized marks loaded = record {
   answer = rw e answer;
   marks-sized = sized;
@@ -153,7 +157,8 @@ loaded-long s long =
 
 module _ {s : List ℕ} {p : Progress} {marks words m : List ℕ} where
   pub loaded-fail : (f : Fault) → TurnRight s p marks words m (Fail f) → Loaded s (Refused f (p .at)) marks words m
-  loaded-fail f r = loaded-as (refused (numberOf f) (r .before)) (r .verdict) (ap (refusal (numberOf f)) (r .known .at-is)) (r .marks-sized) (r .known .marks-are) (r .loaded)
+  loaded-fail f r =
+      loaded-as (refused (numberOf f) (r .before)) (r .verdict) (ap (refusal (numberOf f)) (r .known .at-is)) (r .marks-sized) (r .known .marks-are) (r .loaded)
 
   pub loaded-stop : TurnRight s p marks words m Stop → Loaded s (reading p) marks words m
   unfolding ended lastSection size
@@ -163,4 +168,5 @@ module _ {s : List ℕ} {p : Progress} {marks words m : List ℕ} where
       go none known loaded e = loaded-as (refused 4 none) e (rw (known .section-is)) (r .marks-sized) (known .marks-are) loaded
       go (after before x) known loaded e =
           loaded-as (accepted (after before x)) e
-          (simp (known .section-is, ne-eqb (section x) 0 (section-some x), known .k-is, known .q-is, known .w-is, known .requests-is, known .acts-at-is)) (r .marks-sized) (known .marks-are) loaded
+          (simp (known .section-is, ne-eqb (section x) 0 (section-some x), known .k-is, known .q-is, known .w-is, known .requests-is, known .acts-at-is))
+          (r .marks-sized) (known .marks-are) loaded

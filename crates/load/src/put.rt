@@ -48,7 +48,8 @@ pub fn noted(
     m: &mut Machine,
 ) -> Progress
     requires { ⌜ MayNote kind section (now b) p (now marks) (now words) (now m) ⌝ }
-    ensures { λ r. ⌜ Keeps (item kind (now (b .entry))) p (now (marks .entry)) (now (words .entry)) (now (m .entry)) r (now (marks .exit)) (now (words .exit)) (now (m .exit)) ⌝ }
+    ensures { λ r. ⌜ Keeps (item kind (now (b .entry))) p (now (marks .entry)) (now (words .entry)) (now (m .entry)) r
+        (now (marks .exit)) (now (words .exit)) (now (m .exit)) ⌝ }
 {
     let next = p.past(section, b.len());
     match kind {

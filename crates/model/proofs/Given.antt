@@ -43,13 +43,15 @@ module _ {items : Items} {m memory : List ℕ} (r : RanTo items m memory) where
       subst (λ (o : Results). Leaves o before c after) (results-are r) left
 
 -- ---- what is copied
-pub room-parts : (n : ℕ) (m : Lent) → roomFor n m ≡ true → (n ≤ length (m .replies)) × (n ≤ length (m .marks)) × (n ≤ length (m .order)) × (256 ≤ length (m .words))
+room-parts : (n : ℕ) (m : Lent) → roomFor n m ≡ true →
+    (n ≤ length (m .replies)) × (n ≤ length (m .marks)) × (n ≤ length (m .order)) × (256 ≤ length (m .words))
 unfolding roomFor
 room-parts n m h =
     let a = both-true (leb n (length (m .replies))) _ h in
     let b = both-true (leb n (length (m .marks))) _ (a .1) in
     let d = both-true (leb n (length (m .order))) _ (b .1) in
-    (leb-true n (length (m .replies)) (a .0), leb-true n (length (m .marks)) (b .0), leb-true n (length (m .order)) (d .0), leb-true 256 (length (m .words)) (d .1))
+    let words = leb-true 256 (length (m .words)) (d .1) in
+    (leb-true n (length (m .replies)) (a .0), leb-true n (length (m .marks)) (b .0), leb-true n (length (m .order)) (d .0), words)
 
 -- each of the four fits: the first two in the number of requests that the machine tells
 module _ {m memory : List ℕ} {before : Lent} (g : MayGive m memory before) where

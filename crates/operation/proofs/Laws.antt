@@ -1,9 +1,8 @@
 -- The laws of the add, of merging, and of codes and operands: document 01, "Operations".
 use mathlib.Core.Path.{_≡_, refl, ap, subst}
-use Prim.Native.Nat.{ℕ, _+_, _^_, _<_}
+use Prim.Native.Nat.{ℕ, _+_, _<_}
 use native.Mathlib.Nat.{add-comm}
 use native.Mathlib.Omega.{arith}
-use lib.Bits.{and-lt, xor-lt}
 use Rattle.operation.specs.declared.Operation.{Operation}
 use Rattle.operation.specs.declared.Operation.the-variants.{Load, Swap, Add, Mask}
 use Rattle.operation.specs.declared.Merged.{Merged}
@@ -11,22 +10,14 @@ use Rattle.operation.specs.declared.Merged.the-variants.{One, Never}
 use Rattle.operation.specs.Operation.{cut, sum, applied, merged, operationOf, codeOf, firstOperand, secondOperand}
 use Rattle.operation.proofs.Bits.{and-assoc, xor-assoc, and-xor}
 
--- ---- cut: the only laws that see its text
-pub cut-below : (n : ℕ) → cut n < 2 ^ 64
-unfolding cut
-cut-below n = omega arith
-
--- the cut may be taken inside
+-- ---- cut: the only law that sees its text
+-- the cut may be taken inside: what No. 2, 8 and 11 start from
 pub cut-inside : (x y : ℕ) → cut (cut x + y) ≡ cut (x + y)
 unfolding cut
 cut-inside x y = omega arith
 
 -- ---- sum
-pub sum-below : (x y : ℕ) → sum x y < 2 ^ 64
-unfolding sum
-sum-below x y = cut-below (x + y)
-
-pub sum-assoc : (x y z : ℕ) → sum x (sum y z) ≡ sum (sum x y) z
+sum-assoc : (x y z : ℕ) → sum x (sum y z) ≡ sum (sum x y) z
 unfolding sum
 sum-assoc x y z = rw (add-comm x (cut (y + z)), cut-inside (y + z) x, cut-inside (x + y) z) (ap cut (omega arith))
 
@@ -77,18 +68,3 @@ operation-words Load = refl
 operation-words (Swap v) = refl
 operation-words (Add a) = refl
 operation-words (Mask a b) = refl
-
--- ---- words stay words
--- the operands are words of 64 bits
-abbrev pub Fits : Operation → Type 0
-Fits Load = Unit {0}
-Fits (Swap v) = v < 2 ^ 64
-Fits (Add a) = a < 2 ^ 64
-Fits (Mask a b) = (a < 2 ^ 64) × (b < 2 ^ 64)
-
-pub applied-fits : (f : Operation) → Fits f → (x : ℕ) → x < 2 ^ 64 → applied f x < 2 ^ 64
-unfolding applied
-applied-fits Load w x h = h
-applied-fits (Swap v) w x h = w
-applied-fits (Add a) w x h = sum-below x a
-applied-fits (Mask a b) w x h = xor-lt 64 _ _ (and-lt 64 _ _ h (w .0)) (w .1)

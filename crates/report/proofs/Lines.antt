@@ -4,7 +4,7 @@ use mathlib.Core.Path.{_≡_, sym, _∙_, ap, ap₂, subst}
 use mathlib.Core.List.{List, _++_}
 use native.Mathlib.Numerals.{add-one}
 use native.Mathlib.Omega.{arith}
-use lib.ListN.{length, getD, drop, replicate, List·getD-append}
+use lib.ListN.{length, replicate}
 use Rattle.lists.proofs.Below.{length-below}
 use Rattle.digits.specs.Inner.Buffer.{Wrote, Printed}
 use Rattle.digits.proofs.Buffer.{wrote-then, wrote-printed}
@@ -13,6 +13,7 @@ use Rattle.text.proofs.Sections.{Section, replies, orders}
 use Rattle.view.specs.Inner.View.{View}
 use Rattle.results.specs.Inner.Copied.{valueIn, valuesIn, markIn, marksIn}
 use Rattle.results.specs.Over.{over}
+use Rattle.results.proofs.Over.{over-at}
 use Rattle.report.specs.Inner.Lines.{Printable, repliesIn, ordersIn, textIn}
 
 -- ---- a section looks only at the places below its count: a list copied over the front of an array gives the same lines as the list itself
@@ -23,9 +24,6 @@ section-same {lines} {line} {lines′} {line′} s t (suc n) h =
     ap lines (sym (add-one n)) ∙ s .more n
     ∙ ap₂ (λ (l m : List ℕ). l ++ m) (section-same s t n (λ i l. h i (omega arith))) (h n (omega arith))
     ∙ sym (t .more n) ∙ ap lines′ (add-one n)
-
-over-at : (new old : List ℕ) (i : ℕ) → i < length new → getD (over new old) i 0 ≡ getD new i 0
-over-at new old i l = List·getD-append new (drop (length new) old) 0 i l
 
 replies-over : (n : ℕ) (values marks old old′ : List ℕ) → length values ≡ n → length marks ≡ n →
     replyLines n (over values old) (over marks old′) ≡ replyLines n values marks

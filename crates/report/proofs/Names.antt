@@ -29,7 +29,8 @@ module _ (rs : List Request) (address : ℕ → ℕ) (same : (t : ℕ) → t < l
   unfolding asksBelow some
   asks-first zero l = refl
   asks-first (suc n) l =
-      rw (asks-first n (omega arith), take-suc rs n noRequest (omega arith), some-more (λ (r : Request). eqb (r .address) a) (take n rs) (requestAt rs n), same n (omega arith))
+      let last = some-more (λ (r : Request). eqb (r .address) a) (take n rs) (requestAt rs n) in
+      rw (asks-first n (omega arith), take-suc rs n noRequest (omega arith), last, same n (omega arith))
 
   asks-all : asksBelow address (length rs) a ≡ asksFor rs a
   asks-all = asks-first (length rs) (omega arith) ∙ ap (λ (l : List Request). asksFor l a) (take-length rs)

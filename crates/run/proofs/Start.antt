@@ -1,19 +1,20 @@
 -- From a loaded trace to the start, and from the end of its acts to the end of its run.
 use Prim.Native.Nat.{ℕ, _≤_}
-use mathlib.Core.Path.{_≡_, refl, sym, _∙_, ap, subst}
-use mathlib.Core.List.{List, [], _∷_}
+use mathlib.Core.Path.{_≡_, sym, _∙_, ap, subst}
+use mathlib.Core.List.{List}
 use native.Mathlib.Omega.{arith}
-use lib.ListN.{length, getD, set, replicate, length-set, length-replicate}
+use lib.ListN.{length, getD}
 use Rattle.lists.specs.Search.{All}
 use Rattle.operation.specs.declared.Words.{Words}
 use Rattle.view.specs.Inner.View.{View, operationIn}
 use Rattle.store.specs.Inner.Memory.{view}
 use Rattle.trace.specs.Bytes.{AreBytes}
-use Rattle.trace.specs.Item.{Word, Items}
-use Rattle.trace.specs.Contents.{shapeOf, wordsGiven, requestsOf, actsOf, putWords, startWords}
+use Rattle.trace.specs.Item.{Items}
+use Rattle.trace.specs.Contents.{shapeOf, wordsGiven, requestsOf, actsOf}
 use Rattle.trace.specs.Inner.Ranges.{ActIn, InRange}
 use Rattle.trace.specs.Inner.Acts.{Left}
 use Rattle.trace.specs.declared.Facts.{Facts}
+use Rattle.trace.proofs.Contents.{start-length}
 use Rattle.trace.proofs.Accept.{accepted-is}
 use Rattle.trace.proofs.Ranges.{accepted-in-range}
 use Rattle.trace.proofs.ActsLeft.{left-start}
@@ -52,16 +53,6 @@ held-requests items within v h = record {
   path-is = λ t l s le. h .each t l .path-is .positions s le;
   asked = λ t l. ap (λ (w : Words). operationIn w) (h .each t l .carried-is);
 }
-
--- ---- the words
-put-length : (ws : List Word) (memory : List ℕ) → length (putWords memory ws) ≡ length memory
-unfolding putWords
-put-length [] memory = refl
-put-length (w ∷ ws) memory = put-length ws (set memory (w .address) (w .value)) ∙ length-set memory (w .address) (w .value)
-
-start-length : (ws : List Word) → length (startWords ws) ≡ 256
-unfolding startWords
-start-length ws = put-length ws (replicate 256 0) ∙ length-replicate {A = ℕ} 256 0
 
 -- ---- the run before its first event
 start-run : (x : Network) (v : View) (words : ℕ → ℕ) → AtStart x v → v .rounds ≡ 0 → shownRun x v words ≡ atStart (setup x) words

@@ -36,7 +36,8 @@ length-trace none = refl
 length-trace (after before x) = omega (arith, length-append (traceOf before) (recordOf x), length-trace before, length-record x)
 
 -- items that are not refused are passed over
-pub check-written : (xs : Items) → Valid xs → AllFitBytes xs → (back : List ℕ) → checkRecords none (records (traceOf xs ++ back)) ≡ checkRecords xs (records back)
+check-written : (xs : Items) → Valid xs → AllFitBytes xs → (back : List ℕ) →
+    checkRecords none (records (traceOf xs ++ back)) ≡ checkRecords xs (records back)
 unfolding traceOf checkRecords decide
 check-written none v fit back = refl
 check-written (after before x) (valid-after v sound) (after-fit fit fits) back =
@@ -72,7 +73,8 @@ accepted-after done (after before x) xs s left e are stand short v fit h =
 accepted-after (broken n) before xs s left e are stand short v fit h = clash (cc)
 accepted-after (next x rest) before xs s left e are stand short v fit h =
     let f = first-of are x rest e in
-    let stand′ : s ≡ (traceOf before ++ recordOf x) ++ f .back = stand ∙ ap (λ (l : List ℕ). traceOf before ++ l) (f .bytes-are) ∙ sym (append-assoc (traceOf before) (recordOf x) (f .back)) in
+    let stand′ : s ≡ (traceOf before ++ recordOf x) ++ f .back =
+    stand ∙ ap (λ (l : List ℕ). traceOf before ++ l) (f .bytes-are) ∙ sym (append-assoc (traceOf before) (recordOf x) (f .back)) in
     go (λ sound. accepted-after rest (after before x) xs s (f .back) (sym (f .rest-is)) (f .are) stand′ short (valid-after v sound) (after-fit fit (f .fits)))
     (fault before x) refl h
   where
@@ -90,7 +92,7 @@ accepted-is s xs are e = go (ltb 65536 (length s)) refl e
     go true f h = clash (cc)
     go false f h = accepted-after (records s) none xs s s refl are refl (ltb-false 65536 (length s) f) valid-none none-fit h
 
-pub is-accepted : (s : List ℕ) (xs : Items) → Accepted s xs → check s ≡ accepted xs
+is-accepted : (s : List ℕ) (xs : Items) → Accepted s xs → check s ≡ accepted xs
 is-accepted s none a = absurd (a .some refl)
 is-accepted s (after before x) a =
     rw (a .bytes-are) (accepts before x (a .valid) (a .fit) (rw (a .bytes-are) at (a .short)))
@@ -116,7 +118,8 @@ accepted-before s before x y are e = go (accepted-is s (after (after before x) y
   where
     go : Accepted s (after (after before x) y) → check (take (size (after before x)) s) ≡ accepted (after before x)
     go a =
-        let front : take (size (after before x)) s ≡ traceOf (after before x) =
-        ap (take (size (after before x))) (a .bytes-are) ∙ take-at (traceOf (after before x)) (recordOf y) (size (after before x)) (length-trace (after before x)) in
-        let low : length (traceOf (after before x)) ≤ 65536 = omega (arith, ap length (a .bytes-are), length-append (traceOf (after before x)) (recordOf y), a .short) in
+        let xs = after before x in
+        let front : take (size xs) s ≡ traceOf xs =
+        ap (take (size xs)) (a .bytes-are) ∙ take-at (traceOf xs) (recordOf y) (size xs) (length-trace xs) in
+        let low : length (traceOf xs) ≤ 65536 = omega (arith, ap length (a .bytes-are), length-append (traceOf xs) (recordOf y), a .short) in
         rw front (accepts before x (valid-before (a .valid)) (fit-before (a .fit)) low)

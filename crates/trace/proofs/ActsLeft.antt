@@ -63,7 +63,8 @@ split-low xs v low =
     let at : actsAt xs ≡ length (traceOf xs) = h .0 ∙ sym (length-trace xs) in
     record { inside = omega arith; acts-are = rw (at, drop-length (traceOf xs), h .1) }
 
-split-act : (before : Items) (a : Act) → Split before → actsAt (after before (act a)) ≡ actsAt before → actsOf (after before (act a)) ≡ actsOf before ++ (a ∷ []) → Split (after before (act a))
+split-act : (before : Items) (a : Act) → Split before → actsAt (after before (act a)) ≡ actsAt before →
+    actsOf (after before (act a)) ≡ actsOf before ++ (a ∷ []) → Split (after before (act a))
 unfolding traceOf
 split-act before a i same more = record {
   inside = omega (arith, i .inside, length-append (traceOf before) (recordOf (act a)));
@@ -103,10 +104,13 @@ unfolding actsWritten
 left-next {s} {at} {a} {rest} l =
     let x = act a in
     let long : length s - at ≡ recordSize x + length (actsWritten rest) =
-    sym (length-drop at s) ∙ ap length (l .bytes-are) ∙ length-append (recordOf x) (actsWritten rest) ∙ ap (λ (n : ℕ). n + length (actsWritten rest)) (length-record x) in
+    sym (length-drop at s) ∙ ap length (l .bytes-are) ∙ length-append (recordOf x) (actsWritten rest)
+    ∙ ap (λ (n : ℕ). n + length (actsWritten rest)) (length-record x) in
     record {
       inside = omega (arith, l .inside);
-      bytes-are = sym (drop-drop (recordSize x) at s) ∙ ap (drop (recordSize x)) (l .bytes-are) ∙ drop-at (recordOf x) (actsWritten rest) (recordSize x) (length-record x);
+      bytes-are =
+          sym (drop-drop (recordSize x) at s) ∙ ap (drop (recordSize x)) (l .bytes-are)
+          ∙ drop-at (recordOf x) (actsWritten rest) (recordSize x) (length-record x);
       fit = tail (l .fit);
     }
   where

@@ -104,7 +104,9 @@ module _ (k w : ℕ) where
       refused (headerFits w) (namesStep k (eventBytes w)) (ltb (byteIn w 4) 8) (ltb (byteIn w 5) 8) (ltb (byteIn w 6) (2 ^ k))
       (λ e.
       let i = step-in k (eventBytes w) e in
-      (lt-ltb (byteIn w 4) 8 (omega (arith, i .what-most)), lt-ltb (byteIn w 5) 8 (omega (arith, i .level-most)), lt-ltb (byteIn w 6) (2 ^ k) (i .position-below)))
+      let what-low = lt-ltb (byteIn w 4) 8 (omega (arith, i .what-most)) in
+      let level-low = lt-ltb (byteIn w 5) 8 (omega (arith, i .level-most)) in
+      (what-low, level-low, lt-ltb (byteIn w 6) (2 ^ k) (i .position-below)))
 
   -- where the mask agrees, the set of steps decides
   pub step-told : maskTells k w ≡ true → (named : ℕ) → Steps k named → eqb (named / 2 ^ (8 * (w / 2 ^ 40 % 8) + w / 2 ^ 32 % 8) % 2) 1 ≡ isEvent k w

@@ -64,4 +64,5 @@ module _ {M : Type 1} (𝓤 : URA M) (H : Heap 𝓤) (A : Atoms 𝓤) (W : Given
   pub twice : (κ : Lft) (s : RefT (List ℕ)) (n : ℕ) → ent 𝓤 (sem 𝓤 H A (PairOwns κ s n)) (sep 𝓤 (sem 𝓤 H A (PairOwns κ s n)) (sem 𝓤 H A (SliceOwns κ s)))
   twice κ s n =
       qed W (‵ (PairOwns κ s n) ∷ []) ∵
-      fsplit ! $ use1 W (‵ (SliceOwns κ s) ⊛ ‵ (SliceOwns κ s)) (shr-slice-copy 𝓤 H A W (named 0) κ u8 .twice s (sliceOf s ∷ [])) $ split ! $ move ! (0 ∷ 2 ∷ []) $ fjoin ! $ frame ! $ done !
+      fsplit ! $ use1 W (‵ (SliceOwns κ s) ⊛ ‵ (SliceOwns κ s)) (shr-slice-copy 𝓤 H A W (named 0) κ u8 .twice s (sliceOf s ∷ [])) $
+      split ! $ move ! (0 ∷ 2 ∷ []) $ fjoin ! $ frame ! $ done !

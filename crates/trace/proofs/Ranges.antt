@@ -103,7 +103,8 @@ shape-in-range before s h = shape-in s (unless-zero (shapeFits s) 4 (own-clean b
 abbrev pub requestFault : ℕ → ℕ → Request → ℕ
 requestFault k t r = orElse (unless (ltb t 256) 9) (unless (requestFits k r) 7)
 
-pub request-right : (k t : ℕ) (r : Request) → requestFault k t r ≡ 0 → (t < 256) × (r .engine < 2 ^ k) × (operandsFit (r .operation) (r .first) (r .second) ≡ true)
+pub request-right : (k t : ℕ) (r : Request) → requestFault k t r ≡ 0 →
+    (t < 256) × (r .engine < 2 ^ k) × (operandsFit (r .operation) (r .first) (r .second) ≡ true)
 unfolding requestFits
 request-right k t r h =
     let parts = or-else-zero _ _ h in

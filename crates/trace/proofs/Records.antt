@@ -126,7 +126,8 @@ nothing-is (x ∷ s) e =
     N = number 2 (x ∷ s) 0
 
     go : (t₂ t₃ t₄ t₅ : Bool) →
-        choose t₂ (faulty 1) (choose (not t₃) (faulty 2) (choose (not t₄) (faulty 3) (choose t₅ (faulty 1) (whole K (take N (drop 4 (x ∷ s))))))) ≡ nothing → _≡_ {A = ℕ} 0 1
+        choose t₂ (faulty 1) (choose (not t₃) (faulty 2) (choose (not t₄) (faulty 3) (choose t₅ (faulty 1) (whole K (take N (drop 4 (x ∷ s))))))) ≡ nothing →
+        _≡_ {A = ℕ} 0 1
     go true t₃ t₄ t₅ h = cc
     go false false t₄ t₅ h = cc
     go false true false t₅ h = cc
@@ -161,6 +162,9 @@ whole-is s kind b e =
     N : ℕ
     N = number 2 s 0
 
+    told : Split
+    told = whole K (take N (drop 4 s))
+
     kind-same : (k : ℕ) (l : List ℕ) → whole k l ≡ whole kind b → k ≡ kind
     kind-same k l h = cc
 
@@ -168,7 +172,7 @@ whole-is s kind b e =
     body-same k l h = cc
 
     go : (t₁ t₂ t₃ t₄ t₅ : Bool) → ltb (length s) 4 ≡ t₂ → isRow (bodyRow K N) ≡ t₄ → ltb (length s - 4) N ≡ t₅ →
-        choose t₁ nothing (choose t₂ (faulty 1) (choose (not t₃) (faulty 2) (choose (not t₄) (faulty 3) (choose t₅ (faulty 1) (whole K (take N (drop 4 s))))))) ≡ whole kind b →
+        choose t₁ nothing (choose t₂ (faulty 1) (choose (not t₃) (faulty 2) (choose (not t₄) (faulty 3) (choose t₅ (faulty 1) told)))) ≡ whole kind b →
         Whole s kind b
     go true t₂ t₃ t₄ t₅ e₂ e₄ e₅ h = clash (cc)
     go false true t₃ t₄ t₅ e₂ e₄ e₅ h = clash (cc)

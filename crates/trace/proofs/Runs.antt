@@ -105,7 +105,7 @@ unfolding fault mayFollow orElse partsOf ownFault
 event-clean before e h names = rw (h, names)
 
 module _ {s : List ℕ} {k at end : ℕ} (are : AreBytes s) (p : Passed s k at end) where
-  pub passed-drain : end + 6 ≤ length s → number 4 s end ≡ 327682 → Passed s k at (end + 6)
+  passed-drain : end + 6 ≤ length s → number 4 s end ≡ 327682 → Passed s k at (end + 6)
   unfolding rows firstRow bodyRow total partsOf recordSize
   passed-drain inside header =
       let body = take 2 (drop (end + 4) s) in
@@ -139,13 +139,15 @@ module _ {s : List ℕ} {k at end : ℕ} (are : AreBytes s) (p : Passed s k at e
 pub not-four : {s : List ℕ} {i : ℕ} → FourDrains s i false
 not-four = record { headers = λ e. clash (cc) }
 
-pub four-told : {s : List ℕ} {i : ℕ} → number 4 s i ≡ 327682 → number 4 s (i + 6) ≡ 327682 → number 4 s (i + 12) ≡ 327682 → (n : ℕ) → n ≡ number 4 s (i + 18) → FourDrains s i (eqb n 327682)
+pub four-told : {s : List ℕ} {i : ℕ} → number 4 s i ≡ 327682 → number 4 s (i + 6) ≡ 327682 → number 4 s (i + 12) ≡ 327682 → (n : ℕ) → n ≡ number 4 s (i + 18) →
+    FourDrains s i (eqb n 327682)
 four-told a b c n d = record { headers = λ e. (a, b, c, sym d ∙ eqb-true n 327682 e) }
 
 pub drains-start : (s : List ℕ) (at : ℕ) → at ≤ length s → DrainsPassed s at at
 drains-start s at h = record { passed = λ k. passed-start s k at h }
 
-passed-four : {s : List ℕ} {at i : ℕ} → AreBytes s → DrainsPassed s at i → i + 24 ≤ length s → {b : Bool} → FourDrains s i b → b ≡ true → DrainsPassed s at (i + 24)
+passed-four : {s : List ℕ} {at i : ℕ} → AreBytes s → DrainsPassed s at i → i + 24 ≤ length s → {b : Bool} → FourDrains s i b → b ≡ true →
+    DrainsPassed s at (i + 24)
 passed-four {s} {at} {i} are p inside f e =
     let h = f .headers e in
     let e2 : i + 6 + 6 ≡ i + 12 = omega arith in
@@ -159,7 +161,8 @@ passed-four {s} {at} {i} are p inside f e =
           rw e4 at (passed-drain are p3 (omega arith) (h .3));
     }
 
-pub passed-eight : {s : List ℕ} {at i : ℕ} → AreBytes s → DrainsPassed s at i → i + 48 ≤ length s → {b c : Bool} → FourDrains s i b → b ≡ true → FourDrains s (i + 24) c → c ≡ true →
+pub passed-eight : {s : List ℕ} {at i : ℕ} → AreBytes s → DrainsPassed s at i → i + 48 ≤ length s → {b c : Bool} → FourDrains s i b → b ≡ true →
+    FourDrains s (i + 24) c → c ≡ true →
     DrainsPassed s at (i + 48)
 passed-eight {s} {at} {i} are p inside f b g c =
     let e : i + 24 + 24 ≡ i + 48 = omega arith in

@@ -14,7 +14,8 @@ use Rattle.lists.proofs.Tests.{both-true, clash}
 use Rattle.event.specs.Event.{Act, event, drain}
 use Rattle.trace.specs.Bytes.{number, fieldsIn, total}
 use Rattle.trace.specs.Item.{Word, Request, Item, shape, word, request, act}
-use Rattle.trace.specs.Table.{Row, shapeRow, wordRow, requestRow, eventRow, drainRow, rows, bodySize, noRow, isRow, firstRow, kindRow, bodyRow, item, Parts, partsOf, rowOf, section, recordSize}
+use Rattle.trace.specs.Table.{Row, shapeRow, wordRow, requestRow, eventRow, drainRow, rows, bodySize, noRow, isRow, firstRow, kindRow, bodyRow}
+use Rattle.trace.specs.Table.{item, Parts, partsOf, rowOf, section, recordSize}
 use Rattle.trace.specs.Contents.{Contents, add}
 use Rattle.trace.specs.Inner.Known.{shapeIn, wordIn, requestIn, eventIn, Bodied, moved, movedPast}
 use Rattle.trace.specs.declared.progress.Progress.{Progress}
@@ -51,7 +52,8 @@ gathered (suc n) [] h = let z : ⊥ = omega arith in elim z [ ]
 gathered (suc n) (x ∷ f) h = ap (λ (l : List ℕ). x ∷ l) (gather-behind n 0 x f ∙ gathered n f (omega arith))
 
 -- ---- each row
-abbrev with-fields : (r : Row) (n : ℕ) (f : List ℕ) → length f ≡ n → _≡_ {A = Parts} (record { row = r; fields = gather n 0 f }) (record { row = r; fields = f })
+abbrev with-fields : (r : Row) (n : ℕ) (f : List ℕ) → length f ≡ n →
+    _≡_ {A = Parts} (record { row = r; fields = gather n 0 f }) (record { row = r; fields = f })
 with-fields r n f long = ap (λ (l : List ℕ). record { row = r; fields = l }) (gathered n f long)
 
 right : (r : Row) → sound r ≡ true → isRow r ≡ true → bodyRow (r .kind) (bodySize r) ≡ r →
@@ -71,13 +73,15 @@ rows-right =
 no-row : {G : Type 0} → isRow noRow ≡ true → G
 no-row e = clash (cc)
 
-first-right : {P : Row → Type 0} (test : Row → Bool) {rs : List Row} → All P rs → isRow (firstRow test rs) ≡ true → P (firstRow test rs) × (test (firstRow test rs) ≡ true)
+first-right : {P : Row → Type 0} (test : Row → Bool) {rs : List Row} → All P rs → isRow (firstRow test rs) ≡ true →
+    P (firstRow test rs) × (test (firstRow test rs) ≡ true)
 unfolding firstRow
 first-right test nil is = no-row is
 first-right {P} test (cons {x = r} {xs = rs} p ps) is = go (first-right test ps) (test r) refl is
   where
     go : (isRow (firstRow test rs) ≡ true → P (firstRow test rs) × (test (firstRow test rs) ≡ true)) →
-        (t : Bool) → test r ≡ t → isRow (choose t r (firstRow test rs)) ≡ true → P (choose t r (firstRow test rs)) × (test (choose t r (firstRow test rs)) ≡ true)
+        (t : Bool) → test r ≡ t → isRow (choose t r (firstRow test rs)) ≡ true →
+        P (choose t r (firstRow test rs)) × (test (choose t r (firstRow test rs)) ≡ true)
     go on true e h = (p, e)
     go on false e h = on h
 
@@ -112,7 +116,8 @@ pub record ItemRight (x : Item) : Type 0 where
 
 -- where its row is the one that is found by kind and length
 in-table : (x : Item) → bodyRow (rowOf x .kind) (bodySize (rowOf x)) ≡ rowOf x → isRow (rowOf x) ≡ true →
-    length (partsOf x .fields) ≡ length (rowOf x .widths) → rowOf x .make (partsOf x .fields) ≡ x → ItemRight x
+    length (partsOf x .fields) ≡ length (rowOf x .widths) →
+    rowOf x .make (partsOf x .fields) ≡ x → ItemRight x
 in-table x found is many made =
     record { row-right = subst RowRight found (row-told (rowOf x .kind) (bodySize (rowOf x)) (rw found is) .right); many = many; made = made }
 
@@ -176,7 +181,8 @@ one-length r true e is = eqb-true _ _ e
 one-length r false e is = no-row is
 
 -- and what the table says of it
-pub one-listed : (test : Bool) (r : Row) → isRow r ≡ true → choose test (In (r .section)) NoLength ≡ choose (isRow (choose test r noRow)) (In (choose test r noRow .section)) NoLength
+pub one-listed : (test : Bool) (r : Row) → isRow r ≡ true →
+    choose test (In (r .section)) NoLength ≡ choose (isRow (choose test r noRow)) (In (choose test r noRow .section)) NoLength
 one-listed true r is = rw is
 one-listed false r is = refl
 

@@ -65,11 +65,12 @@ records-written x fits back =
 module _ {b : List ℕ} (are : AreBytes b) (kind : ℕ) (is : isRow (bodyRow kind (length b)) ≡ true) where
   body-item : bodyOf (item kind b) ≡ b
   body-item =
-      let told = row-told kind (length b) is in
+      let row = bodyRow kind (length b) in
+      let size-is = row-told kind (length b) is .size-is in
       ap (λ (p : Parts). fieldBytes (p .row .widths) (p .fields)) (parts-item kind b is)
-      ∙ (fields-again are (bodyRow kind (length b) .widths) 0 (omega (arith, told .size-is)) ∙ take-all (bodySize (bodyRow kind (length b))) b (omega (arith, told .size-is)))
+      ∙ (fields-again are (row .widths) 0 (omega (arith, size-is)) ∙ take-all (bodySize row) b (omega (arith, size-is)))
 
-  pub fits-item : FitsBytes (item kind b)
+  fits-item : FitsBytes (item kind b)
   fits-item = subst (λ (p : Parts). FieldsFit (p .row .widths) (p .fields)) (sym (parts-item kind b is)) (fields-fit are (bodyRow kind (length b) .widths) 0)
 
 -- a whole record is written again
@@ -80,7 +81,8 @@ whole-written {s} {kind} {b} are are-b w =
     let size-bytes : bytes 2 n ≡ take 2 s = ap (bytes 2) (sym (w .size-is)) ∙ bytes-number are 2 0 (omega (arith, w .fits)) in
     let kind-bytes : bytes 2 kind ≡ take 2 (drop 2 s) = ap (bytes 2) (sym (w .kind-is)) ∙ bytes-number are 2 2 (omega (arith, w .fits)) in
     let header : take 2 s ++ (take 2 (drop 2 s) ++ b) ≡ take (4 + n) s =
-    sym (append-assoc (take 2 s) (take 2 (drop 2 s)) b) ∙ ap (λ (l : List ℕ). (take 2 s ++ take 2 (drop 2 s)) ++ l) (w .body-is) ∙ rw (← (take-add 2 2 s)) (sym (take-add 4 n s)) in
+    sym (append-assoc (take 2 s) (take 2 (drop 2 s)) b) ∙ ap (λ (l : List ℕ). (take 2 s ++ take 2 (drop 2 s)) ++ l) (w .body-is)
+    ∙ rw (← (take-add 2 2 s)) (sym (take-add 4 n s)) in
     let size-is : bodySize (rowOf (item kind b)) ≡ n = sym (body-item-size kind b (w .right)) in
     let kind-is : rowOf (item kind b) .kind ≡ kind = kind-item kind b (w .right) in
     rw (size-is, kind-is, body-item are-b kind (w .right), size-bytes, kind-bytes, header) (sym (take-append-drop (4 + n) s))

@@ -64,7 +64,7 @@ fn level_fits(k: u8, what: u8, level: u8) -> bool
     level < end[step]
 }
 
-pub fn names_step(k: u8, what: u8, level: u8, position: u8) -> bool
+fn names_step(k: u8, what: u8, level: u8, position: u8) -> bool
     requires { ⌜ k ≤ 4 ⌝ }
     ensures { λ r. ⌜ r ≡ namesStep k (record { what = what; level = level; position = position }) ⌝ }
 {

@@ -33,7 +33,7 @@ unfolding reported textOf refusedText bytesOf
 verdict-some (refused n before) = omega arith
 verdict-some (accepted items) = accepted-some _ _ _ _ _ _ _ _ _ _
 
-pub report-some : (trace : List ℕ) → 0 < length (report trace)
+report-some : (trace : List ℕ) → 0 < length (report trace)
 unfolding report
 report-some trace = verdict-some (check trace)
 

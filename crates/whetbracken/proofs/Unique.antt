@@ -19,7 +19,8 @@ use Rattle.whetbracken.proofs.Answers.{numbers-said, memory-left}
 pub only-one : (trace : List ℕ) (before : Lent) (r r′ : Numbers) (m m′ : Lent) → Answered trace before r m → Answered trace before r′ m′ → (r ≡ r′) × (m ≡ m′)
 only-one trace before r r′ m m′ p p′ = (numbers-said p ∙ sym (numbers-said p′), memory-left p ∙ sym (memory-left p′))
 
-pub only-one-report : (trace before : List ℕ) (n n′ : ℕ) (after after′ : List ℕ) → Wrote trace before n after → Wrote trace before n′ after′ → (n ≡ n′) × (after ≡ after′)
+pub only-one-report : (trace before : List ℕ) (n n′ : ℕ) (after after′ : List ℕ) → Wrote trace before n after → Wrote trace before n′ after′ →
+    (n ≡ n′) × (after ≡ after′)
 only-one-report trace before n n′ after after′ p p′ =
     let z = only-one-written trace before (p .written) (p′ .written) after after′ (p .reported) (p′ .reported) in
     (p .len-is ∙ ap (λ (w : Written). w .len) (z .0) ∙ sym (p′ .len-is), z .1)

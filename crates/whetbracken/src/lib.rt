@@ -26,7 +26,9 @@ pub extern "C" fn whetbracken_model(
     order: &mut [u64],
     words: &mut [u64],
 ) -> Numbers
-    ensures { λ r. ⌜ Answered (now (trace .entry)) (lent (now (replies .entry)) (now (marks .entry)) (now (order .entry)) (now (words .entry))) r (lent (now (replies .exit)) (now (marks .exit)) (now (order .exit)) (now (words .exit))) ⌝ }
+    ensures { λ r. ⌜ Answered (now (trace .entry))
+        (lent (now (replies .entry)) (now (marks .entry)) (now (order .entry)) (now (words .entry))) r
+        (lent (now (replies .exit)) (now (marks .exit)) (now (order .exit)) (now (words .exit))) ⌝ }
 {
     numbers_of(model::model(trace, replies, marks, order, words))
 }

@@ -1,3 +1,4 @@
+-- `ended` meets its contract: refused where no shape was given, and else what is known of the whole trace.
 use borrow.Author.Tests.{eq-eqb, ne-eqb}
 use Rattle.load.proofs.ended.Statement.{statement}
 use Rattle.load.proofs.ended.Tie as tie

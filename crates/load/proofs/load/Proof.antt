@@ -1,3 +1,4 @@
+-- `load` meets its contract. The loop's invariant: what is known, loaded and marked is that of the records passed. Its measure: the bytes left.
 use Prim.Native.Nat.{_-_}
 use native.Mathlib.Omega.{arith}
 use lib.ListN.{length}

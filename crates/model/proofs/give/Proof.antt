@@ -11,13 +11,16 @@ copy-values-requires : tie.Need-copy-values-requires
 copy-values-requires c κs = values-fit (c .before .before .before .before .before .before .pre) (c .before .requests-in .ensures)
 
 copy-marks-requires : tie.Need-copy-marks-requires
-copy-marks-requires c κs = marks-fit (c .before .before .before .before .before .before .before .before .before .before .pre) (c .before .before .before .before .before .requests-in .ensures)
+copy-marks-requires c κs =
+    let d = c .before .before .before .before .before in marks-fit (d .before .before .before .before .before .pre) (d .requests-in .ensures)
 
 copy-order-requires : tie.Need-copy-order-requires
 copy-order-requires c κs = order-fits (c .before .before .before .before .before .before .before .before .before .before .before .before .before .before .pre)
 
 copy-words-requires : tie.Need-copy-words-requires
-copy-words-requires c κs = words-fit (c .before .before .before .before .before .before .before .before .before .before .before .before .before .before .before .before .before .before .pre)
+copy-words-requires c κs =
+    let d = c .before .before .before .before .before .before .before .before .before in
+    words-fit (d .before .before .before .before .before .before .before .before .before .pre)
 
 counts-of-requires : tie.Need-counts-of-requires
 counts-of-requires c κs = search needs
@@ -36,13 +39,12 @@ same-length-4 c = search needs
 
 returns : tie.Need-returns
 returns c =
-    copied
-    (c .before .before .before .before .before .before .before .before .before .before .before .before .before .before .before .before .before .requests-in .ensures)
-    (c .counts-of .ensures)
-    (c .before .before .before .before .before .before .before .before .before .before .before .before .before .before .before .copy-values .ensures)
-    (c .before .before .before .before .before .before .before .before .before .before .before .copy-marks .ensures)
-    (c .before .before .before .before .before .before .before .copy-order .ensures)
-    (c .before .before .before .copy-words .ensures)
+    let words = c .before .before .before in
+    let order = words .before .before .before .before in
+    let marks = order .before .before .before .before in
+    let values = marks .before .before .before .before in
+    copied (values .before .before .requests-in .ensures) (c .counts-of .ensures) (values .copy-values .ensures) (marks .copy-marks .ensures)
+    (order .copy-order .ensures) (words .copy-words .ensures)
 
 pub give-spec : {M : Type 1} → statement M
 give-spec =

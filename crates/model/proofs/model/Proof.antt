@@ -35,7 +35,8 @@ has-room-requires : tie.Need-has-room-requires
 has-room-requires c κs = search needs
 
 from-start-requires : tie.Need-from-start-requires
-from-start-requires c κs = load-loading (c .before .before .before .before .before .before .before .load .ensures) (c .before .before .before .before .before .told2 .given .1)
+from-start-requires c κs =
+    load-loading (c .before .before .before .before .before .before .before .load .ensures) (c .before .before .before .before .before .told2 .given .1)
 
 give-requires : tie.Need-give-requires
 give-requires c κs =
@@ -77,7 +78,8 @@ returns-3 : tie.Need-returns-3
 returns-3 c =
     let asked = c .before in
     let l = load-loading (asked .before .before .before .before .load .ensures) (asked .before .before .told2 .given .1) in
-    all-kept (trace-bytes (asked .before .before .before .before)) (promised-no-room _ (lent-to asked) l (room-told _ (lent-to asked) l (asked .has-room .ensures) (c .if1 .left)))
+    all-kept (trace-bytes (asked .before .before .before .before)) (promised-no-room _ (lent-to asked) l
+    (room-told _ (lent-to asked) l (asked .has-room .ensures) (c .if1 .left)))
 
 pub model-spec : {M : Type 1} → statement M
 model-spec =

@@ -1,3 +1,4 @@
+-- `read_all` meets its contract. The loop's invariant: what was read fits the buffer. Its measure: the reads left.
 use mathlib.Core.Path.{_≡_, sym}
 use Prim.Native.Nat.{_≤_}
 use lib.ListN.{length}

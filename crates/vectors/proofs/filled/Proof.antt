@@ -1,3 +1,4 @@
+-- `filled` meets its contract: the part read into is within the buffer.
 use mathlib.Core.Path.{sym}
 use lib.Seq.{length-take-le}
 use native.Mathlib.Omega.{arith}

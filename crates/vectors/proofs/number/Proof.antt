@@ -1,3 +1,4 @@
+-- `number` meets its contract: no step overflows, and the loop's measure is the bytes left.
 use borrow.Author.Needs.{needs}
 use Rattle.vectors.proofs.number.Statement.{statement}
 use Rattle.vectors.proofs.number.Tie as tie

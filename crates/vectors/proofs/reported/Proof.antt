@@ -1,3 +1,4 @@
+-- `reported` meets its contract: the parts of the slices are within them.
 use mathlib.Core.Path.{sym}
 use lib.Seq.{length-take-le}
 use native.Mathlib.Omega.{arith}

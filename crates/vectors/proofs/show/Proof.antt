@@ -1,3 +1,4 @@
+-- `show` meets its contract: the part written is within the buffer.
 use mathlib.Core.Path.{sym}
 use lib.Seq.{length-take-le}
 use native.Mathlib.Omega.{arith}

@@ -1,3 +1,4 @@
+-- `put_request` meets its contract: the path is made, and the request put into the machine.
 use native.Mathlib.Omega.{arith}
 use borrow.Author.Needs.{needs}
 use Rattle.load.proofs.put.put_request.Statement.{statement}

@@ -1,3 +1,4 @@
+-- `put_word` meets its contract: the word is marked and stored at its address.
 use mathlib.Core.Path.{refl}
 use native.Mathlib.Omega.{arith}
 use borrow.Author.Needs.{needs}

@@ -1,3 +1,4 @@
+-- `one_turn` meets its contract: the end, a bad header, a fault, or one record on.
 use mathlib.Core.Path.{sym}
 use native.Mathlib.Omega.{arith}
 use denote.Ref.{now}
@@ -32,7 +33,9 @@ body-requires : tie.Need-body-requires
 body-requires c κs = rw (c .before .found2 .given .1) at (c .before .before .before .head-due .ensures .fits) .inside
 
 record-fault-requires : tie.Need-record-fault-requires
-record-fault-requires c κs = let h = at-body (c .before) in let i = c .before .before .before .before .before .before .before .pre in (h .bodied, i .room .marks-size, i .so-far .known .k-low)
+record-fault-requires c κs =
+    let h = at-body (c .before) in
+    let i = c .before .before .before .before .before .before .before .pre in (h .bodied, i .room .marks-size, i .so-far .known .k-low)
 
 enum-told-2 : tie.Need-enum-told-2
 enum-told-2 c = search needs
@@ -58,14 +61,21 @@ returns : tie.Need-returns
 returns c = turn-stop (c .before .before .before .before .pre) (sym (rw (c .enum-told .given .1) at (c .before .before .head-due .ensures .says)))
 
 returns-2 : tie.Need-returns-2
-returns-2 c = turn-bad (c .before .before .before .before .before .pre) (c .before .found .given .0 .0) (sym (rw (c .before .found .given .1) at (c .before .before .before .head-due .ensures .says)))
+returns-2 c =
+    let d = c .before .before .before in
+    turn-bad (d .before .before .pre) (c .before .found .given .0 .0) (sym (rw (c .before .found .given .1) at (d .head-due .ensures .says)))
 
 returns-3 : tie.Need-returns-3
-returns-3 c = let h = at-body (c .before .before .before .before .before .before .before .before) in let i = c .before .before .before .before .before .before .before .before .before .before .before .before .before .before .pre in
-    turn-go i (h .stands) (h .inside) (h .bodied) (rw (c .before .before .before .before .enum-told2 .given .1) at (c .before .before .before .before .before .before .record-fault .ensures)) (c .noted .result) _ _ _ (c .noted .ensures)
+returns-3 c =
+    let h = at-body (c .before .before .before .before .before .before .before .before) in
+    let i = c .before .before .before .before .before .before .before .before .before .before .before .before .before .before .pre in
+    let found = rw (c .before .before .before .before .enum-told2 .given .1) at (c .before .before .before .before .before .before .record-fault .ensures) in
+    turn-go i (h .stands) (h .inside) (h .bodied) found (c .noted .result) _ _ _ (c .noted .ensures)
 
 returns-4 : tie.Need-returns-4
-returns-4 c = let h = at-body (c .before .before .before .before .before) in let i = c .before .before .before .before .before .before .before .before .before .before .before .pre in
+returns-4 c =
+    let h = at-body (c .before .before .before .before .before) in
+    let i = c .before .before .before .before .before .before .before .before .before .before .before .pre in
     turn-fault i (h .stands) (c .before .finding .given .0 .0) (rw (c .before .finding .given .1) at (c .before .before .before .record-fault .ensures))
 
 pub one-turn-spec : {M : Type 1} → statement M

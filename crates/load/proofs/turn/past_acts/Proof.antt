@@ -1,3 +1,4 @@
+-- `past_acts` meets its contract: past a run of acts, or nowhere.
 use borrow.Author.Needs.{needs}
 use Rattle.load.proofs.Onward.{onward-run, onward-same}
 use Rattle.load.proofs.turn.past_acts.Statement.{statement}

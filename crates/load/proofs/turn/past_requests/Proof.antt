@@ -1,3 +1,4 @@
+-- `past_requests` meets its contract: past a run of requests, or nowhere.
 use native.Mathlib.Omega.{arith}
 use Rattle.load.proofs.Requests.{requests-onward, no-requests}
 use Rattle.load.proofs.turn.past_requests.Statement.{statement}
@@ -13,13 +14,17 @@ add-p : tie.Need-add-p
 add-p c = omega (arith, c .before .requests-from .ensures .inside, c .before .before .before .before .before .before .pre .0 .1)
 
 add-p-2 : tie.Need-add-p-2
-add-p-2 c = let d = c .before .before in let pre = d .before .before .before .before .before .pre in omega (arith, d .requests-from .ensures .inside, pre .0 .1, pre .0 .3)
+add-p-2 c =
+    let d = c .before .before in
+    let pre = d .before .before .before .before .before .pre in omega (arith, d .requests-from .ensures .inside, pre .0 .1, pre .0 .3)
 
 mul-p-2 : tie.Need-mul-p-2
 mul-p-2 c = omega (arith, c .before .before .requests-from .ensures .inside, c .before .before .before .before .before .before .before .pre .0 .1)
 
 add-p-3 : tie.Need-add-p-3
-add-p-3 c = let d = c .before .before .before in let pre = d .before .before .before .before .before .pre in omega (arith, d .requests-from .ensures .inside, pre .0 .1, pre .1)
+add-p-3 c =
+    let d = c .before .before .before in
+    let pre = d .before .before .before .before .before .pre in omega (arith, d .requests-from .ensures .inside, pre .0 .1, pre .1)
 
 returns : tie.Need-returns
 returns c = requests-onward (c .before .before .before .requests-from .ensures) (c .before .before .before .before .before .if1 .taken)

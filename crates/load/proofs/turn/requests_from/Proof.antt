@@ -63,18 +63,23 @@ enum-told c = search needs
 
 put-request-requires : tie.Need-put-request-requires Inv-loop μ-loop
 put-request-requires c κs = let d = c .before .before .before .before .before .before .before .before .before .before in let a = d .before .before .args in
-    let right = request-right (a .p .k) (a .p .requests + d .loop .n) (requestIn (now (c .before .before .before .before .before .body .result))) (clean (c .before)) in
-    (long (c .before .before .before .before .before), d .before .before .pre .2, right .1, right .0, d .loop .inv .sized)
+    let e = c .before .before .before .before .before in
+    let right = request-right (a .p .k) (a .p .requests + d .loop .n) (requestIn (now (e .body .result))) (clean (c .before)) in
+    (long e, d .before .before .pre .2, right .1, right .0, d .loop .inv .sized)
 
 add-n : tie.Need-add-n Inv-loop μ-loop
-add-n c = let d = c .before .before .before .before .before .before .before .before .before .before .before in omega (arith, d .loop .inv .inside, d .before .before .pre .1)
+add-n c =
+    let d = c .before .before .before .before .before .before .before .before .before .before .before in
+    omega (arith, d .loop .inv .inside, d .before .before .pre .1)
 
 loop-less : tie.Need-loop-less Inv-loop μ-loop
-loop-less c = let d = c .before .before .before .before .before .before .before .before .before in omega (arith, d .if1 .left, d .before .before .loop .inv .inside)
+loop-less c =
+    let d = c .before .before .before .before .before .before .before .before .before in omega (arith, d .if1 .left, d .before .before .loop .inv .inside)
 
 loop-again : tie.Need-loop-again Inv-loop μ-loop
 loop-again c = let d = c .before .before .before .before .before .before in let e = d .before .before .before .before .before in
-    requests-one-more (record { below = λ j. e .before .shared-slice-known .given j .fits }) (e .loop .inv) (omega (arith, d .before .before .before .if1 .left, e .loop .inv .inside))
+    requests-one-more (record { below = λ j. e .before .shared-slice-known .given j .fits }) (e .loop .inv)
+    (omega (arith, d .before .before .before .if1 .left, e .loop .inv .inside))
     (sym (d .before .before .number4 .ensures .0) ∙ d .before .if2 .left) (d .body .ensures) (clean (c .before .before)) (c .put-request .ensures)
 
 enum-told-2 : tie.Need-enum-told-2 Inv-loop μ-loop

@@ -1,4 +1,4 @@
--- `act_at` meets its contract: the end, or the act that the low byte of its kind tells.
+-- `act_at` meets its contract: each way out cites what is read there of the acts left.
 use mathlib.Core.Path.{_∙_, ap}
 use native.Mathlib.Omega.{arith}
 use borrow.Author.Needs.{needs}

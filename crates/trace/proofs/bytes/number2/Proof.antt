@@ -1,3 +1,4 @@
+-- `number2` meets its contract: the low byte and 256 of the high one.
 use native.Mathlib.Omega.{arith}
 use native.Mathlib.Numerals.{towards-suc}
 use borrow.Author.Needs.{needs}

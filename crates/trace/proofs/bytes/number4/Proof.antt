@@ -1,3 +1,4 @@
+-- `number4` meets its contract: two bytes joined with the next two.
 use native.Mathlib.Omega.{arith}
 use denote.Ref.{now}
 use borrow.Author.Needs.{needs}
@@ -21,7 +22,9 @@ add-result : tie.Need-add-result
 add-result c = search needs
 
 returns : tie.Need-returns
-returns c = omega (arith, number-join 2 2 (now (c .before .before .before .args .s)) (c .before .before .before .args .i), c .before .number2 .ensures .0, c .number22 .ensures .0)
+returns c =
+    let a = c .before .before .before .args in
+    omega (arith, number-join 2 2 (now (a .s)) (a .i), c .before .number2 .ensures .0, c .number22 .ensures .0)
 
 pub number4-spec : {M : Type 1} → statement M
 number4-spec =

@@ -1,3 +1,4 @@
+-- `number8` meets its contract: four bytes joined with the next four.
 use native.Mathlib.Omega.{arith}
 use denote.Ref.{now}
 use borrow.Author.Needs.{needs}
@@ -21,7 +22,9 @@ add-result : tie.Need-add-result
 add-result c = search needs
 
 returns : tie.Need-returns
-returns c = omega (arith, number-join 4 4 (now (c .before .before .before .args .s)) (c .before .before .before .args .i), c .before .number4 .ensures .0, c .number42 .ensures .0)
+returns c =
+    let a = c .before .before .before .args in
+    omega (arith, number-join 4 4 (now (a .s)) (a .i), c .before .number4 .ensures .0, c .number42 .ensures .0)
 
 pub number8-spec : {M : Type 1} → statement M
 number8-spec =

@@ -1,3 +1,4 @@
+-- `fixed_bits` meets its contract: the mask as a sum.
 use borrow.Author.Needs.{needs}
 use native.Mathlib.Omega.{arith}
 use lib.Pow.{pow-pos, pow-mono}

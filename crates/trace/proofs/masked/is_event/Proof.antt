@@ -1,3 +1,4 @@
+-- `is_event` meets its contract: where the mask agrees the set of steps decides, and else it is none.
 use borrow.Author.Needs.{needs}
 use borrow.Author.Tests.{eq-eqb, ne-eqb}
 use mathlib.Core.Path.{sym, _∙_}

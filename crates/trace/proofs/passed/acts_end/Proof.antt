@@ -44,7 +44,8 @@ loop-less c = omega arith
 loop-again : tie.Need-loop-again Inv-loop μ-loop
 loop-again c = let d = c .before .before .before .before in
     passed-told (record { below = λ j. d .before .before .before .shared-slice-known .given j .fits }) (d .loop .inv) (omega arith)
-    (c .before .before .number8 .ensures) (d .before .before .before .before .pre .2) (d .before .before .fixed-bits .ensures) (d .before .steps-of .ensures) (c .before .is-event .ensures) (c .if2 .taken)
+    (c .before .before .number8 .ensures) (d .before .before .before .before .pre .2) (d .before .before .fixed-bits .ensures) (d .before .steps-of .ensures)
+    (c .before .is-event .ensures) (c .if2 .taken)
 
 returns-2 : tie.Need-returns-2 Inv-loop μ-loop
 returns-2 c = c .before .before .before .before .before .loop .inv

@@ -36,7 +36,8 @@ returns-2 : tie.Need-returns-2 Inv-loop μ-loop
 returns-2 c = c .before .before .before .before .before .loop .inv
 
 add-i : tie.Need-add-i Inv-loop μ-loop
-add-i c = let d = c .before .before .before .before in omega (arith, d .loop-test .taken, d .before .loop .inv .passed 0 .inside, d .before .before .before .pre .1)
+add-i c =
+    let d = c .before .before .before .before in omega (arith, d .loop-test .taken, d .before .loop .inv .passed 0 .inside, d .before .before .before .pre .1)
 
 loop-less : tie.Need-loop-less Inv-loop μ-loop
 loop-less c = let d = c .before .before .before .before in omega (arith, d .loop-test .taken, d .before .loop .inv .passed 0 .inside)
@@ -45,7 +46,8 @@ loop-again : tie.Need-loop-again Inv-loop μ-loop
 loop-again c = let d = c .before .before .before .before in
     passed-eight (record { below = λ j. d .before .before .shared-slice-known .given j .fits }) (d .before .loop .inv)
     (omega (arith, d .loop-test .taken, d .before .loop .inv .passed 0 .inside))
-    (c .before .before .before .four-drains .ensures) (not-false _ (c .before .before .if1 .left)) (c .before .four-drains2 .ensures) (not-false _ (c .if2 .left))
+    (c .before .before .before .four-drains .ensures) (not-false _ (c .before .before .if1 .left))
+    (c .before .four-drains2 .ensures) (not-false _ (c .if2 .left))
 
 returns-3 : tie.Need-returns-3 Inv-loop μ-loop
 returns-3 c = c .before .loop .inv

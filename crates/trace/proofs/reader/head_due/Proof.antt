@@ -119,11 +119,15 @@ module _ {M : Type 1} (𝓤 : URA M) (H : Heap 𝓤) (A : Atoms 𝓤) (W : Given
   head-said : (r : Reader) (h : Head) → ent 𝓤 (head-ensures r h) (fact 𝓤 (Read r h))
   head-said r h = exE 𝓤 _ (λ ws. snd∗ 𝓤 (sem 𝓤 H A (lasts head.ended (κ, tt) (r, tt) ws)) (fact 𝓤 (Read r h)))
 
-  exits : (h : Head) (u : Val) → HeadRead (now s) n h → ent 𝓤 (⋆ 𝓤 H A (‵ (S.the-row .own h (u ∷ [])) ∷ (‵ (flft κ q) ⊛ ‵ ftrue) ∷ ‵ (SliceOwns κ s) ∷ [])) (Post u)
+  exits : (h : Head) (u : Val) → HeadRead (now s) n h →
+      ent 𝓤 (⋆ 𝓤 H A (‵ (S.the-row .own h (u ∷ [])) ∷ (‵ (flft κ q) ⊛ ‵ ftrue) ∷ ‵ (SliceOwns κ s) ∷ [])) (Post u)
   exits h u e =
       qed W (‵ (S.the-row .own h (u ∷ [])) ∷ (‵ (flft κ q) ⊛ ‵ ftrue) ∷ ‵ (SliceOwns κ s) ∷ []) ∵
-      suffices ! _ (ends-at 𝓤 H A due.ended pair-stay (due.clauses 𝓤 H A mem run) W (((κ, tt), (q, tt), tt, (s, (n, tt)), pairOf s n), tt) u h (tt, (tt, tt)) (tt, (tt, tt))) $
-      says ! e $ move ! (1 ∷ []) $ frame ! $ nothing ! $ owned ! usize (Is usize) (uint-makes 𝓤 H A W w64) n _ (refl, ok) $ fjoin ! $ move ! (2 ∷ 0 ∷ []) $ fjoin ! $ frame ! $ done !
+      suffices ! _
+      (ends-at 𝓤 H A due.ended pair-stay (due.clauses 𝓤 H A mem run) W (((κ, tt), (q, tt), tt, (s, (n, tt)), pairOf s n), tt) u h
+      (tt, (tt, tt)) (tt, (tt, tt))) $
+      says ! e $ move ! (1 ∷ []) $ frame ! $ nothing ! $ owned ! usize (Is usize) (uint-makes 𝓤 H A W w64) n _ (refl, ok) $
+      fjoin ! $ move ! (2 ∷ 0 ∷ []) $ fjoin ! $ frame ! $ done !
 
   module _ (C : Calls 𝓤 H) (Λ : Loops 𝓤 H) (fm : FmC 𝓤 H (W .laws) C)
       (known-new : Triple 𝓤 (C #new) (New 𝓤 H A mem run)) (known-head : Triple 𝓤 (C #head) (HeadOf 𝓤 H A mem run)) where
@@ -131,18 +135,21 @@ module _ {M : Type 1} (𝓤 : URA M) (H : Heap 𝓤) (A : Atoms 𝓤) (W : Given
     walk p =
         qed W (raw Entry ∷ []) ∵ enter ! C Λ code.function (sliceOf s ∷ vint w64 n ∷ []) _ $
         alloc1 ! (λ l₀. alloc1 ! (λ l₁. alloc1 ! (λ l₂. alloc1 ! (λ l₃. alloc0 ! $ params1 ! $
-        pass1 ! (init ! 4 refl (shr-slice-lawful 𝓤 H A W (named 0) κ u8 .typed s (sliceOf s ∷ []) p .0)) $ pass1 ! (init ! 2 refl (tt, record { fits = ok })) $ pass0 ! $
+        pass1 ! (init ! 4 refl (shr-slice-lawful 𝓤 H A W (named 0) κ u8 .typed s (sliceOf s ∷ []) p .0)) $
+        pass1 ! (init ! 2 refl (tt, record { fits = ok })) $ pass0 ! $
         move ! (8 ∷ []) $ use1 W (raw (New 𝓤 H A mem run .pre to-new) ⊛ ‵ (SliceOwns κ s)) goes-new $ split ! $
         calls-at ! fm (New 𝓤 H A mem run) known-new to-new
         (and-then ! (load ! (from ! (stop !)) (look ! 6 refl)) (and-then ! (load ! (from ! (stop !)) (look ! 4 refl)) (no-more !))) (λ u.
-        use1 W (later (some (λ (r : Reader). ((‵ (flft κ q) ⊛ ‵ ftrue) ⊛ ‵ (ReaderOf (κ, tt) .own r (u ∷ []))) ⊛ raw (new-ensures r)))) (id⊢ 𝓤 _) $ await ! tt $ pick ! (λ r.
+        use1 W (later (some (λ (r : Reader). ((‵ (flft κ q) ⊛ ‵ ftrue) ⊛ ‵ (ReaderOf (κ, tt) .own r (u ∷ []))) ⊛ raw (new-ensures r)))) (id⊢ 𝓤 _) $
+        await ! tt $ pick ! (λ r.
         split ! $ move ! (1 ∷ []) $ use1 W (raw (fact 𝓤 (Made s n r))) (new-said r) $ heard ! (Made s n r) (λ e. split ! $ move ! (1 ∷ []) $
         -- [what the struct owns; the token; what s owns; room for _3; …; _2; …; _1; …; room for _0; …]
         peeks ! (ReaderOf (κ, tt)) (Is (ReaderOf (κ, tt))) (shows 𝓤 H A (ReaderOf (κ, tt))) r (u ∷ []) (λ is.
         land ! (from ! (stop !)) (init ! 3 refl (LL.lawful (T.the-type αᵉ) (T′.the-laws αᵉ) 𝓤 H A W .typed r _ is .0)) $
         use2 W (raw (HeadOf 𝓤 H A mem run .pre (to-head r u))) (goes-head r u (made-inside s n r e inside)) $
         calls-at ! fm (HeadOf 𝓤 H A mem run) known-head (to-head r u) (and-then ! (load ! (from ! (stop !)) (look ! 2 refl)) (no-more !)) (λ u′.
-        use1 W (later (some (λ (h : Head). ((‵ (flft κ q) ⊛ ‵ ftrue) ⊛ ‵ (S.the-row .own h (u′ ∷ []))) ⊛ raw (head-ensures r h)))) (id⊢ 𝓤 _) $ await ! tt $ pick ! (λ h.
+        use1 W (later (some (λ (h : Head). ((‵ (flft κ q) ⊛ ‵ ftrue) ⊛ ‵ (S.the-row .own h (u′ ∷ []))) ⊛ raw (head-ensures r h)))) (id⊢ 𝓤 _) $
+        await ! tt $ pick ! (λ h.
         split ! $ move ! (1 ∷ []) $ use1 W (raw (fact 𝓤 (Read r h))) (head-said r h) $ heard ! (Read r h) (λ e′. split ! $ move ! (1 ∷ []) $
         -- [the result; the token; what s owns; _3; …; _2; …; _1; …; room for _0; …]
         peeks ! S.the-row (Is S.the-row) (shows 𝓤 H A S.the-row) h (u′ ∷ []) (λ is′.
@@ -155,7 +162,8 @@ meets : {M : Type 1} (𝓤 : URA M) (H : Heap 𝓤) (A : Atoms 𝓤) → Given �
     → Triple 𝓤 (𝓣 .C #new) (New 𝓤 H A mem run) → Triple 𝓤 (𝓣 .C #head) (HeadOf 𝓤 H A mem run)
     → Meets 𝓤 H A due.signature (WpFn 𝓤 H (𝓣 .C) (𝓣 .Λ) code.function) (due.spec 𝓤 H A mem run)
 meets 𝓤 H A W mem run 𝓣 known-new known-head =
-    walk-meets 𝓤 H A due.ended pair-stay W (pair-goes 𝓤 H A W) (due.clauses 𝓤 H A mem run) (WpFn 𝓤 H (𝓣 .C) (𝓣 .Λ) code.function) (WpFn-mono 𝓤 H (W .laws) 𝓣 code.function)
+    walk-meets 𝓤 H A due.ended pair-stay W (pair-goes 𝓤 H A W) (due.clauses 𝓤 H A mem run)
+    (WpFn 𝓤 H (𝓣 .C) (𝓣 .Λ) code.function) (WpFn-mono 𝓤 H (W .laws) 𝓣 code.function)
     (walked 𝓤 H A due.ended pair-stay (due.clauses 𝓤 H A mem run) (WpFn 𝓤 H (𝓣 .C) (𝓣 .Λ) code.function)
     (λ κs. (slice-vals, (uint-vals w64, tt))) (λ κs. (shr-slice-tells (named 0) (κs .0) u8, (uint-tells w64, tt)))
     (λ κs qs bounds a g are. needs 𝓤 _ _

@@ -1,3 +1,4 @@
+-- `body` meets its contract: the part of the trace behind the header.
 use native.Mathlib.Nat.{add-sub-cancel-left}
 use borrow.Author.Needs.{needs}
 use Rattle.trace.proofs.record.body.Statement.{statement}

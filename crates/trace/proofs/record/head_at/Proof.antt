@@ -48,7 +48,8 @@ header d = record {
 
 returns-3 : tie.Need-returns-3
 returns-3 c = let d = c .before .before .before .before in
-    record { says = sym (header-split (header d) (sym (c .before .before .row .given .1) ∙ d .row-told .ensures) ∙ simp (lt-ltb _ _ (c .if3 .taken))); fits = tt }
+    let split-is = header-split (header d) (sym (c .before .before .row .given .1) ∙ d .row-told .ensures) in
+    record { says = sym (split-is ∙ simp (lt-ltb _ _ (c .if3 .taken))); fits = tt }
 
 returns-4 : tie.Need-returns-4
 returns-4 c = let d = c .before .before in

@@ -51,4 +51,6 @@ returns-6 c = let r = c .match .rest in
     simp (ne-eqb _ _ (r .1), ne-eqb _ _ (r .0 .1), ne-eqb _ _ (r .0 .0 .1), ne-eqb _ _ (r .0 .0 .0 .1), ne-eqb _ _ (r .0 .0 .0 .0 .1))
 
 pub row-told-spec : {M : Type 1} → statement M
-row-told-spec = tie.close (tie.spec sized-requires sized-requires-2 sized-requires-3 sized-requires-4 sized-requires-5 returns returns-2 returns-3 returns-4 returns-5 returns-6)
+row-told-spec =
+    tie.close
+    (tie.spec sized-requires sized-requires-2 sized-requires-3 sized-requires-4 sized-requires-5 returns returns-2 returns-3 returns-4 returns-5 returns-6)

@@ -1,3 +1,4 @@
+-- `event_fault` meets its contract: what `names_step` says decides.
 use borrow.Author.Needs.{needs}
 use Rattle.trace.proofs.rules.event_fault.Statement.{statement}
 use Rattle.trace.proofs.rules.event_fault.Tie as tie

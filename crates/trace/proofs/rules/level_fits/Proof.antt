@@ -1,3 +1,4 @@
+-- `level_fits` meets its contract: a what above 4 has no level, and the others their range.
 use mathlib.Core.Path.{sym}
 use borrow.Author.Tests.{le-leb, lt-leb}
 use borrow.Author.Needs.{needs}

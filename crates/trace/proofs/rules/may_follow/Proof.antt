@@ -1,3 +1,4 @@
+-- `may_follow` meets its contract: each return by the tests that led to it.
 use borrow.Author.Tests.{lt-ltb, le-ltb, eq-eqb, ne-eqb}
 use Rattle.trace.specs.Refusals.{mayFollow}
 use Rattle.trace.proofs.rules.may_follow.Statement.{statement}

@@ -1,3 +1,4 @@
+-- `names_step` meets its contract: the position below the width, then what `level_fits` says.
 use borrow.Author.Tests.{lt-ltb, le-ltb}
 use borrow.Author.Needs.{needs}
 use Rattle.event.specs.Event.{namesStep}

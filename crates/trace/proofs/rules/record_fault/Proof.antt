@@ -1,3 +1,4 @@
+-- `record_fault` meets its contract: out of its section, or the fault of its own kind.
 use borrow.Author.Needs.{needs}
 use Rattle.trace.specs.Refusals.{fault, orElse}
 use Rattle.trace.proofs.Table.{section-item}

@@ -1,7 +1,12 @@
+-- `request_fault` meets its contract: each test of the code is one of `requestFits`, in its order.
+use mathlib.Core.Path.{_≡_}
 use native.Mathlib.Omega.{arith}
+use denote.Ref.{now}
 use borrow.Author.Tests.{lt-ltb, le-ltb}
 use borrow.Author.Needs.{needs}
-use Rattle.trace.specs.Refusals.{requestFits, orElse}
+use Rattle.trace.specs.Refusals.{requestFits, orElse, unless}
+use Rattle.trace.specs.Inner.Known.{requestIn}
+use Rattle.trace.proofs.Ranges.{requestFault}
 use Rattle.trace.proofs.rules.request_fault.Statement.{statement}
 use Rattle.trace.proofs.rules.request_fault.Tie as tie
 
@@ -34,15 +39,22 @@ number8-requires-2 c κs = search needs
 operands-fit-requires : tie.Need-operands-fit-requires
 operands-fit-requires c κs = search needs
 
-returns-3 : tie.Need-returns-3
+-- past the tests of the tag and of the engine, the operands decide
+operands-decide : (c : tie.After-operands-fit) →
+    let a = c .before .before .before .before .before .before .before .before .before .args in
+    requestFault (a .k) (a .requests) (requestIn (now (a .b))) ≡ unless (c .operands-fit .result) 7
 unfolding requestFits orElse
-returns-3 c = let d = c .before .before .before .before .before in
-    simp (lt-ltb _ _ (d .before .before .before .if1 .left), ← (d .before .width .ensures .0), lt-ltb _ _ (d .if2 .left), ← (c .before .before .before .number8 .ensures), ← (c .before .before .number82 .ensures), ← (c .before .operands-fit .ensures), c .if3 .taken)
+operands-decide c =
+    let d = c .before .before .before .before in
+    let low = lt-ltb _ _ (d .before .before .before .if1 .left) in
+    let engine = lt-ltb _ _ (d .if2 .left) in
+    simp (low, ← (d .before .width .ensures .0), engine, ← (c .before .before .number8 .ensures), ← (c .before .number82 .ensures), c .operands-fit .ensures)
+
+returns-3 : tie.Need-returns-3
+returns-3 c = simp (operands-decide (c .before), c .if3 .taken)
 
 returns-4 : tie.Need-returns-4
-unfolding requestFits orElse
-returns-4 c = let d = c .before .before .before .before .before in
-    simp (lt-ltb _ _ (d .before .before .before .if1 .left), ← (d .before .width .ensures .0), lt-ltb _ _ (d .if2 .left), ← (c .before .before .before .number8 .ensures), ← (c .before .before .number82 .ensures), ← (c .before .operands-fit .ensures), c .if3 .left)
+returns-4 c = simp (operands-decide (c .before), c .if3 .left)
 
 pub request-fault-spec : {M : Type 1} → statement M
 request-fault-spec =

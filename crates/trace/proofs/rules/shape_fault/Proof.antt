@@ -1,3 +1,4 @@
+-- `shape_fault` meets its contract: what `shape_fits` says decides.
 use borrow.Author.Needs.{needs}
 use Rattle.trace.proofs.rules.shape_fault.Statement.{statement}
 use Rattle.trace.proofs.rules.shape_fault.Tie as tie

@@ -1,3 +1,4 @@
+-- `shape_fits` meets its contract: the first test that fails decides.
 use borrow.Author.Tests.{le-leb, lt-leb}
 use Rattle.trace.specs.Refusals.{shapeFits}
 use Rattle.trace.proofs.rules.shape_fits.Statement.{statement}
@@ -17,11 +18,15 @@ returns-3 c = simp (le-leb _ _ (c .before .before .if1 .left), le-leb _ _ (c .be
 
 returns-4 : tie.Need-returns-4
 unfolding shapeFits
-returns-4 c = simp (le-leb _ _ (c .before .before .before .if1 .left), le-leb _ _ (c .before .before .if2 .left), le-leb _ _ (c .before .if3 .left), lt-leb _ _ (c .if4 .taken))
+returns-4 c =
+    let d = c .before .before in
+    simp (le-leb _ _ (d .before .if1 .left), le-leb _ _ (d .if2 .left), le-leb _ _ (c .before .if3 .left), lt-leb _ _ (c .if4 .taken))
 
 returns-5 : tie.Need-returns-5
 unfolding shapeFits
-returns-5 c = simp (le-leb _ _ (c .before .before .before .if1 .left), le-leb _ _ (c .before .before .if2 .left), le-leb _ _ (c .before .if3 .left), le-leb _ _ (c .if4 .left))
+returns-5 c =
+    let d = c .before .before in
+    simp (le-leb _ _ (d .before .if1 .left), le-leb _ _ (d .if2 .left), le-leb _ _ (c .before .if3 .left), le-leb _ _ (c .if4 .left))
 
 pub shape-fits-spec : {M : Type 1} → statement M
 shape-fits-spec = tie.close (tie.spec returns returns-2 returns-3 returns-4 returns-5)

@@ -1,3 +1,4 @@
+-- `word_fault` meets its contract: the mark at the address decides.
 use native.Mathlib.Omega.{arith}
 use borrow.Author.Tests.{eq-eqb, ne-eqb}
 use borrow.Author.Needs.{needs}
