@@ -1,5 +1,5 @@
 -- The acts of an accepted trace, one by one: where they begin, what stands at an offset, and the next offset.
-use Prim.Native.Nat.{ℕ, zero, suc, _+_, _-_, _%_, _≤_, _<_}
+use Prim.Native.Nat.{ℕ, zero, suc, _+_, _-_, _/_, _%_, _≤_, _<_}
 use mathlib.Core.Path.{_≡_, refl, ap, sym, _∙_, subst}
 use mathlib.Core.Logic.{_≢_, ⊎-elim}
 use mathlib.Core.List.{List, [], _∷_, _++_, append-assoc, append-nil}
@@ -7,29 +7,31 @@ use native.Mathlib.Omega.{arith}
 use native.Mathlib.Nat.{add-zero, add-assoc}
 use lib.ListN.{length, getD, take, drop, length-append, length-drop}
 use lib.Seq.{drop-drop, drop-at, drop-length, drop-append-le, getD-drop}
-use borrow.Author.Tests.{lt-ltb}
+use lib.Dec.{eqb}
+use borrow.Author.Tests.{lt-ltb, ne-eqb}
+use Rattle.lists.specs.Choice.{choose}
 use Rattle.lists.specs.Search.{All, nil, cons}
 use Rattle.lists.proofs.Tests.{clash}
-use Rattle.lists.proofs.Every.{all-more}
-use Rattle.event.specs.Event.{Event, Act}
-use Rattle.trace.specs.Bytes.{AreBytes, number, total}
-use Rattle.trace.specs.Inner.Write.{bytes, fieldBytes}
+use Rattle.lists.proofs.Every.{all-more, all-head}
+use Rattle.event.specs.Event.{Act}
+use Rattle.trace.specs.Bytes.{AreBytes, number, fieldsIn, total}
 use Rattle.trace.specs.Item.{Item, act, Items, none, after}
-use Rattle.trace.specs.Table.{partsOf, section, recordSize, size}
-use Rattle.trace.specs.Inner.Write.{recordOf, traceOf}
+use Rattle.trace.specs.Table.{Row, eventRow, drainRow, bodySize, partsOf, rowOf, section, recordSize, size}
+use Rattle.trace.specs.Inner.Write.{bytes, recordOf, traceOf}
 use Rattle.trace.specs.Inner.Fits.{FitsBytes, AllFitBytes, after-fit}
 use Rattle.trace.specs.Contents.{contents, add, actsOf, lastSection, actsAt}
 use Rattle.trace.specs.Refusals.{fault}
 use Rattle.trace.specs.Check.{accepted, check}
 use Rattle.trace.specs.Inner.Fits.{Valid, valid-after}
-use Rattle.trace.specs.Inner.Ranges.{EventBytes}
-use Rattle.trace.specs.Inner.Acts.{actSize, ActFits, actsSize, actOffset, actsWritten, Left, due}
+use Rattle.trace.specs.Inner.Acts.{actSize, ActFits, actsSize, actOffset, actsWritten, Left, dueOf, due}
+use Rattle.trace.specs.declared.acts.Due.{Due}
 use Rattle.trace.specs.declared.acts.Due.the-variants.{End, Event as EventDue, Drain}
-use Rattle.trace.proofs.Numbers.{number-drop, number-bytes}
+use Rattle.trace.proofs.Numbers.{number-one}
+use Rattle.trace.proofs.Fields.{fields-drop, fields-written}
 use Rattle.trace.proofs.Table.{act-section, act-or-earlier}
 use Rattle.trace.proofs.Written.{length-record}
 use Rattle.trace.proofs.Accept.{accepted-is, length-trace}
-use Rattle.trace.proofs.Ranges.{event-bytes, drain-bytes, in-order, follow-low}
+use Rattle.trace.proofs.Ranges.{in-order, follow-low}
 
 acts-written-more : (front : List Act) (a : Act) → actsWritten (front ++ (a ∷ [])) ≡ actsWritten front ++ recordOf (act a)
 unfolding actsWritten
@@ -125,81 +127,105 @@ left-past (suc n) s at (a ∷ rest) l = rw (← (add-assoc at (actSize a) (actsS
 pub left-at : (s : List ℕ) (xs : Items) → AreBytes s → check s ≡ accepted xs → (n : ℕ) → Left s (actOffset xs n) (drop n (actsOf xs))
 left-at s xs are e n = left-past n s (actsAt xs) (actsOf xs) (left-start s xs are e)
 
+-- ---- how an act is told by the low byte of its kind, and what was read is an act
+abbrev rowBy : ℕ → Row
+rowBy kind = choose (eqb kind 4) eventRow drainRow
+
+abbrev dueBy : ℕ → List ℕ → Due
+dueBy kind f = choose (eqb kind 4) (EventDue (getD f 0 0) (getD f 1 0) (getD f 2 0)) (Drain (getD f 0 0))
+
+-- at the end none was read
+abbrev actOf : Due → Act
+actOf End = Act.drain 0
+actOf (EventDue what level position) = Act.event (record { what = what; level = level; position = position })
+actOf (Drain rounds) = Act.drain rounds
+
+record ActTold (a : Act) : Type 0 where
+  row-is : rowBy (rowOf (act a) .kind % 256) ≡ rowOf (act a)
+  due-is : dueBy (rowOf (act a) .kind % 256) (partsOf (act a) .fields) ≡ dueOf a
+  back : actOf (dueOf a) ≡ a
+  some : dueOf a ≢ End
+
+act-told : (a : Act) → ActTold a
+unfolding partsOf
+act-told (Act.event e) = record { row-is = refl; due-is = refl; back = refl; some = λ h. clash (cc) }
+act-told (Act.drain rounds) = record { row-is = refl; due-is = refl; back = refl; some = λ h. clash (cc) }
+
 -- an act was read: it is the next, and past it the others are left
 pub record Next (s : List ℕ) (left : List Act) (a : Act) (at : ℕ) : Type 0 where
   pub rest : List Act
   pub left-is : left ≡ a ∷ rest
   pub are-left : Left s at rest
 
+next-act : {s : List ℕ} {at : ℕ} (left : List Act) (d : Due) → d ≢ End → Left s at left → due left ≡ d → Next s left (actOf d) (at + actSize (actOf d))
+next-act [] d n l e = absurd (n (sym e))
+next-act (a ∷ rest) d n l e =
+    let is : actOf d ≡ a = ap actOf (sym e) ∙ act-told a .back in rw is (record { rest = rest; left-is = refl; are-left = left-next l })
+
 pub next-event : {s : List ℕ} {at : ℕ} (left : List Act) (what level position : ℕ) → Left s at left → due left ≡ EventDue what level position →
     Next s left (Act.event (record { what = what; level = level; position = position })) (at + 7)
 unfolding recordSize partsOf total
-next-event [] what level position l e = clash (cc)
-next-event (Act.event e ∷ rest) what level position l h =
-    let a : e .what ≡ what = cc in
-    let b : e .level ≡ level = cc in
-    let c : e .position ≡ position = cc in
-    record { rest = rest; left-is = λ i. Act.event (record { what = a i; level = b i; position = c i }) ∷ rest; are-left = left-next l }
-next-event (Act.drain rounds ∷ rest) what level position l e = clash (cc)
+next-event left what level position l e = next-act left (EventDue what level position) (λ h. clash (cc)) l e
 
 pub next-drain : {s : List ℕ} {at : ℕ} (left : List Act) (rounds : ℕ) → Left s at left → due left ≡ Drain rounds → Next s left (Act.drain rounds) (at + 6)
 unfolding recordSize partsOf total
-next-drain [] rounds l e = clash (cc)
-next-drain (Act.event e ∷ rest) rounds l h = clash (cc)
-next-drain (Act.drain n ∷ rest) rounds l h =
-    let a : n ≡ rounds = cc in
-    record { rest = rest; left-is = ap (λ (m : ℕ). Act.drain m ∷ rest) a; are-left = left-next l }
+next-drain left rounds l e = next-act left (Drain rounds) (λ h. clash (cc)) l e
 
 pub next-end : {s : List ℕ} {at : ℕ} (left : List Act) → Left s at left → due left ≡ End → left ≡ []
 next-end [] l e = refl
-next-end (Act.event e ∷ rest) l h = clash (cc)
-next-end (Act.drain n ∷ rest) l h = clash (cc)
+next-end (a ∷ rest) l h = absurd (act-told a .some h)
 
 -- what the bytes at an offset say of the next act
 module _ (s : List ℕ) (at : ℕ) where
-  byte-in : {l : List ℕ} → drop at s ≡ l → (i : ℕ) → getD s (at + i) 0 ≡ getD l i 0
-  byte-in e i = sym (getD-drop at s i 0) ∙ ap (λ (l : List ℕ). getD l i 0) e
+  kind-here : {a : Act} {rest : List Act} → Left s at (a ∷ rest) → getD s (at + 2) 0 ≡ rowOf (act a) .kind % 256
+  unfolding actsWritten recordOf bytes
+  kind-here l = sym (getD-drop at s 2 0) ∙ ap (λ (b : List ℕ). getD b 2 0) (l .bytes-are)
+
+  fields-here : {a : Act} {rest : List Act} → Left s at (a ∷ rest) → fieldsIn (rowOf (act a) .widths) s (at + 4) ≡ partsOf (act a) .fields
+  unfolding actsWritten recordOf bytes
+  fields-here {a} {rest} l =
+      let r = rowOf (act a) in
+      let n = bodySize r in
+      let header : List ℕ = n % 256 ∷ n / 256 % 256 ∷ r .kind % 256 ∷ r .kind / 256 % 256 ∷ [] in
+      sym (fields-drop (r .widths) s at 4) ∙ ap (λ (b : List ℕ). fieldsIn (r .widths) b 4) (l .bytes-are)
+      ∙ fields-written (all-head (l .fit)) header (actsWritten rest)
+
+  -- its record stands whole, and it is read by its kind
+  record Here (left : List Act) : Type 0 where
+    inside : at + (4 + bodySize (rowBy (getD s (at + 2) 0))) ≤ length s
+    due-is : dueBy (getD s (at + 2) 0) (fieldsIn (rowBy (getD s (at + 2) 0) .widths) s (at + 4)) ≡ due left
+
+  here : (left : List Act) → Left s at left → at ≢ length s → Here left
+  unfolding actsWritten recordSize
+  here [] l h = absurd (h (omega (arith, length-drop at s, ap length (l .bytes-are), l .inside)))
+  here (a ∷ rest) l h =
+      let t = act-told a in
+      record { inside = rw (kind-here l, t .row-is) (left-next l .inside); due-is = rw (kind-here l, t .row-is, fields-here l) (t .due-is) }
 
   pub read-end : (left : List Act) → Left s at left → at ≡ length s → End ≡ due left
-  unfolding recordSize partsOf total
+  unfolding recordSize
   read-end [] l h = refl
-  read-end (Act.event e ∷ rest) l h = let z : ⊥ = omega (arith, left-next l .inside) in elim z [ ]
-  read-end (Act.drain n ∷ rest) l h = let z : ⊥ = omega (arith, left-next l .inside) in elim z [ ]
+  read-end (a ∷ rest) l h = let z : ⊥ = omega (arith, left-next l .inside) in elim z [ ]
 
-  pub act-room : (left : List Act) → Left s at left → at ≢ length s → at + 6 ≤ length s
-  unfolding recordSize partsOf total actsWritten
-  act-room [] l h = absurd (h (omega (arith, length-drop at s, ap length (l .bytes-are), l .inside)))
-  act-room (Act.event e ∷ rest) l h = omega (arith, left-next l .inside)
-  act-room (Act.drain n ∷ rest) l h = omega (arith, left-next l .inside)
+  module _ (left : List Act) (l : Left s at left) (some : at ≢ length s) where
+    pub act-room : at + 4 ≤ length s
+    act-room = omega (arith, here left l some .inside)
 
-  pub event-room : (left : List Act) → Left s at left → at ≢ length s → getD s (at + 2) 0 ≡ 4 → at + 7 ≤ length s
-  unfolding recordSize partsOf total actsWritten recordOf bytes fieldBytes
-  event-room [] l h k = absurd (h (omega (arith, length-drop at s, ap length (l .bytes-are), l .inside)))
-  event-room (Act.event e ∷ rest) l h k = omega (arith, left-next l .inside)
-  event-room (Act.drain n ∷ rest) l h k = let z : ⊥ = omega (arith, byte-in (l .bytes-are) 2, k) in elim z [ ]
+    pub event-room : getD s (at + 2) 0 ≡ 4 → at + 7 ≤ length s
+    unfolding total
+    event-room k = rw k at (here left l some .inside)
 
-  pub read-event : (left : List Act) → Left s at left → at ≢ length s → getD s (at + 2) 0 ≡ 4 →
-      EventDue (getD s (at + 4) 0) (getD s (at + 5) 0) (getD s (at + 6) 0) ≡ due left
-  unfolding partsOf total actsWritten recordOf bytes fieldBytes
-  read-event [] l h k = absurd (h (omega (arith, length-drop at s, ap length (l .bytes-are), l .inside)))
-  read-event (Act.event e ∷ rest) l h k =
-      let low = event-low (l .fit) in
-      let what : e .what % 256 ≡ e .what = omega (arith, low .what-low) in
-      let level : e .level % 256 ≡ e .level = omega (arith, low .level-low) in
-      let position : e .position % 256 ≡ e .position = omega (arith, low .position-low) in
-      rw (byte-in (l .bytes-are) 4, byte-in (l .bytes-are) 5, byte-in (l .bytes-are) 6, what, level, position)
-    where
-      event-low : {f : Event} {r : List Act} → All ActFits (Act.event f ∷ r) → EventBytes f
-      event-low {f} (cons fits fs) = event-bytes f fits
-  read-event (Act.drain n ∷ rest) l h k = let z : ⊥ = omega (arith, byte-in (l .bytes-are) 2, k) in elim z [ ]
+    pub drain-room : getD s (at + 2) 0 ≢ 4 → at + 6 ≤ length s
+    unfolding total
+    drain-room k = rw (ne-eqb (getD s (at + 2) 0) 4 k) at (here left l some .inside)
 
-  pub read-drain : (left : List Act) → Left s at left → at ≢ length s → getD s (at + 2) 0 ≢ 4 → Drain (number 2 s (at + 4)) ≡ due left
-  unfolding partsOf total actsWritten recordOf bytes fieldBytes
-  read-drain [] l h k = absurd (h (omega (arith, length-drop at s, ap length (l .bytes-are), l .inside)))
-  read-drain (Act.event e ∷ rest) l h k = absurd (k (byte-in (l .bytes-are) 2))
-  read-drain (Act.drain n ∷ rest) l h k =
-      ap Drain (sym (number-drop 2 s at 4) ∙ ap (λ (r : List ℕ). number 2 r 4) (l .bytes-are)
-      ∙ number-bytes 2 n (2 ∷ 0 ∷ 5 ∷ 0 ∷ []) (actsWritten rest) (first (l .fit)))
-    where
-      first : {m : ℕ} {r : List Act} → All ActFits (Act.drain m ∷ r) → m < 65536
-      first {m} (cons fits fs) = drain-bytes m fits
+    pub read-event : getD s (at + 2) 0 ≡ 4 → EventDue (getD s (at + 4) 0) (getD s (at + 5) 0) (getD s (at + 6) 0) ≡ due left
+    unfolding fieldsIn
+    read-event k =
+        let five : at + 4 + 1 ≡ at + 5 = omega arith in
+        let six : at + 4 + 1 + 1 ≡ at + 6 = omega arith in
+        rw (← (number-one s (at + 4)), ← (number-one s (at + 5)), ← (number-one s (at + 6)), ← five, ← six) (rw k at (here left l some .due-is))
+
+    pub read-drain : getD s (at + 2) 0 ≢ 4 → Drain (number 2 s (at + 4)) ≡ due left
+    unfolding fieldsIn
+    read-drain k = rw (ne-eqb (getD s (at + 2) 0) 4 k) at (here left l some .due-is)

@@ -3,12 +3,13 @@ use Prim.Native.Nat.{ℕ, suc, _+_, _≤_}
 use mathlib.Core.Path.{_≡_, refl, ap, sym}
 use mathlib.Core.List.{List, [], _∷_, _++_, append-assoc}
 use native.Mathlib.Omega.{arith}
+use native.Mathlib.Nat.{add-assoc}
 use lib.ListN.{length, take, drop, length-append}
 use lib.Seq.{take-add, drop-drop}
 use Rattle.trace.specs.Bytes.{AreBytes, fieldsIn, total}
 use Rattle.trace.specs.Inner.Write.{bytes, fieldBytes}
 use Rattle.trace.specs.Inner.Fits.{FieldsFit, no-field, field-fits}
-use Rattle.trace.proofs.Numbers.{number-below, length-bytes, bytes-number, number-bytes}
+use Rattle.trace.proofs.Numbers.{number-drop, number-below, length-bytes, bytes-number, number-bytes}
 
 pub length-fields : (widths s : List ℕ) (i : ℕ) → length (fieldsIn widths s i) ≡ length widths
 unfolding fieldsIn
@@ -20,6 +21,11 @@ unfolding fieldBytes total
 length-field-bytes [] fields h = refl
 length-field-bytes (w ∷ ws) [] h = let z : ⊥ = omega arith in elim z [ ]
 length-field-bytes (w ∷ ws) (f ∷ fs) h = omega (arith, length-append (bytes w f) (fieldBytes ws fs), length-bytes w f, length-field-bytes ws fs (omega arith))
+
+pub fields-drop : (widths s : List ℕ) (at i : ℕ) → fieldsIn widths (drop at s) i ≡ fieldsIn widths s (at + i)
+unfolding fieldsIn
+fields-drop [] s at i = refl
+fields-drop (w ∷ ws) s at i = rw (number-drop w s at i, fields-drop ws s at (i + w), add-assoc at i w)
 
 -- what is written is read, wherever it stands
 pub fields-written : {widths fields : List ℕ} → FieldsFit widths fields → (front back : List ℕ) →

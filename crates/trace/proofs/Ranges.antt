@@ -132,11 +132,11 @@ unfolding partsOf
 request-bytes r (field-fits e (field-fits o (field-fits a (field-fits f (field-fits s rest))))) =
     record { engine-low = e; operation-low = o; address-low = a; first-low = f; second-low = s }
 
-pub event-bytes : (e : Event) → FitsBytes (act (event e)) → EventBytes e
+event-bytes : (e : Event) → FitsBytes (act (event e)) → EventBytes e
 unfolding partsOf
 event-bytes e (field-fits w (field-fits l (field-fits p rest))) = record { what-low = w; level-low = l; position-low = p }
 
-pub drain-bytes : (rounds : ℕ) → FitsBytes (act (drain rounds)) → rounds < 65536
+drain-bytes : (rounds : ℕ) → FitsBytes (act (drain rounds)) → rounds < 65536
 unfolding partsOf
 drain-bytes rounds (field-fits low rest) = low
 

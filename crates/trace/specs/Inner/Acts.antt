@@ -41,11 +41,14 @@ pub record Left (s : List ℕ) (at : ℕ) (left : List Act) : Type 0 where
   pub bytes-are : drop at s ≡ actsWritten left
   pub fit : All ActFits left
 
--- what stands where the next act is due
+-- what is read of an act, and what stands where the next one is due
+abbrev pub dueOf : Act → Due
+dueOf (Act.event e) = Event (e .what) (e .level) (e .position)
+dueOf (Act.drain rounds) = Drain rounds
+
 abbrev pub due : List Act → Due
 due [] = End
-due (Act.event e ∷ rest) = Event (e .what) (e .level) (e .position)
-due (Act.drain rounds ∷ rest) = Drain rounds
+due (a ∷ rest) = dueOf a
 
 -- there are such acts: what `act_at` asks
 pub record ActsLeft (s : List ℕ) (at : ℕ) : Type 0 where
