@@ -3,7 +3,6 @@ ghost use mathlib.Core.Path.{_≡_};
 ghost use Prim.Native.Nat.{_≤_, _<_, _^_};
 ghost use lib.ListN.{length, getD, set};
 ghost use Rattle.store.specs.Inner.Layout.{size as machineSize};
-ghost use Rattle.trace.specs.Bytes.{number};
 ghost use Rattle.trace.specs.Table.{item};
 ghost use Rattle.trace.specs.Inner.Known.{requestIn};
 ghost use Rattle.load.specs.Inner.Loop.{MayNote, Keeps, RequestPut};
@@ -12,15 +11,14 @@ use store::Machine;
 use trace::bytes::number8;
 use trace::progress::Progress;
 
-fn put_word(b: &[u8], marks: &mut [u8; 256], words: &mut [u64; 256])
-    requires { ⌜ (length (now b) ≡ 9) × (length (now marks) ≡ 256) × (length (now words) ≡ 256) ⌝ }
-    ensures { λ _. ⌜ now (marks .exit) ≡ set (now (marks .entry)) (getD (now (b .entry)) 0 0) 1 ⌝ }
-    ensures { λ _. ⌜ now (words .exit) ≡ set (now (words .entry)) (getD (now (b .entry)) 0 0) (number 8 (now (b .entry)) 1) ⌝ }
+fn put_word(address: u8, value: u64, marks: &mut [u8; 256], words: &mut [u64; 256])
+    requires { ⌜ (length (now marks) ≡ 256) × (length (now words) ≡ 256) ⌝ }
+    ensures { λ _. ⌜ now (marks .exit) ≡ set (now (marks .entry)) address 1 ⌝ }
+    ensures { λ _. ⌜ now (words .exit) ≡ set (now (words .entry)) address value ⌝ }
 {
-    let a = b[0] as usize;
-    let v = number8(b, 1);
+    let a = address as usize;
     marks[a] = 1;
-    words[a] = v;
+    words[a] = value;
 }
 
 pub fn put_request(b: &[u8], k: u8, t: usize, m: &mut Machine)
@@ -55,7 +53,7 @@ pub fn noted(
     match kind {
         1 => next.with_shape(b),
         2 => {
-            put_word(b, marks, words);
+            put_word(b[0], number8(b, 1), marks, words);
             next
         }
         3 => {

@@ -85,12 +85,11 @@ fn shape_fault(b: &[u8]) -> Finding
 }
 
 // A mark stands at each address that was given.
-fn word_fault(b: &[u8], marks: &[u8; 256]) -> Finding
-    requires { ⌜ (length (now b) ≡ 9) × (length (now marks) ≡ 256) ⌝ }
-    ensures { λ r. ⌜ findingNumber r ≡ unless (eqb (getD (now (marks .entry)) (getD (now (b .entry)) 0 0) 0) 0) 6 ⌝ }
+fn word_fault(address: u8, marks: &[u8; 256]) -> Finding
+    requires { ⌜ length (now marks) ≡ 256 ⌝ }
+    ensures { λ r. ⌜ findingNumber r ≡ unless (eqb (getD (now (marks .entry)) address 0) 0) 6 ⌝ }
 {
-    let a = b[0] as usize;
-    if marks[a] == 0 {
+    if marks[address as usize] == 0 {
         return Finding::Clean;
     }
     Finding::Faulty(Fault::Twice)
@@ -129,7 +128,7 @@ fn own_fault(b: &[u8], kind: u64, p: Progress, marks: &[u8; 256]) -> Finding
 {
     match kind {
         1 => shape_fault(b),
-        2 => word_fault(b, marks),
+        2 => word_fault(b[0], marks),
         3 => request_fault(b, p.k, p.requests),
         4 => event_fault(b, p.k),
         _ => Finding::Clean,

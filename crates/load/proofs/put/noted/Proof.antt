@@ -17,9 +17,16 @@ past-requires c κs = let k = c .before .pre in
 with-shape-requires : tie.Need-with-shape-requires
 with-shape-requires c κs = let d = c .before .before .before in says-shape (now (d .args .b)) (c .match .keys1) (d .pre .bodied .right) .long
 
+-- a word's body has its address and its value
+word-byte : tie.Need-shared-slice-read-put-word
+word-byte c = let d = c .before .before .before .before in omega (arith, says-word (now (d .args .b)) (c .before .match .keys2) (d .pre .bodied .right) .long)
+
+number8-requires : tie.Need-number8-requires
+number8-requires c κs = let d = c .before .before .before .before in
+    omega (arith, says-word (now (d .args .b)) (c .before .match .keys2) (d .pre .bodied .right) .long)
+
 put-word-requires : tie.Need-put-word-requires
-put-word-requires c κs = let d = c .before .before .before .before .before in
-    (says-word (now (d .args .b)) (c .before .before .match .keys2) (d .pre .bodied .right) .long, d .pre .room .marks-size, d .pre .room .words-size)
+put-word-requires c κs = let d = c .before .before .before .before .before .before .before in (d .pre .room .marks-size, d .pre .room .words-size)
 
 put-request-requires : tie.Need-put-request-requires
 put-request-requires c κs = let d = c .before .before .before .before in let three = c .before .match .keys3 in
@@ -36,11 +43,13 @@ returns c = let d = c .before .before .before .before in let b = now (d .args .b
     rw (said .is, c .with-shape .ensures, past) (keeps-shape (d .pre .room) (shapeIn b))
 
 returns-2 : tie.Need-returns-2
-returns-2 c = let d = c .before .before .before .before .before .before in let b = now (d .args .b) in
-    let said = says-word b (c .before .before .before .match .keys2) (d .pre .bodied .right) in
-    let past = c .before .before .before .before .past .ensures ∙ moved-item (d .args .p) (d .pre .bodied) (said .is) in
-    rw (said .is, past, c .put-word .ensures .0, c .put-word .ensures .1)
-    (keeps-word (d .pre .room) (wordIn b) (omega (arith, c .before .before .before .before .before .shared-slice-known .given 0)))
+returns-2 c = let e = c .before .before .before .before .before in
+    let d = e .before .before .before in
+    let b = now (d .args .b) in
+    let said = says-word b (e .match .keys2) (d .pre .bodied .right) in
+    let past = e .before .past .ensures ∙ moved-item (d .args .p) (d .pre .bodied) (said .is) in
+    rw (said .is, past, c .put-word .ensures .0, c .put-word .ensures .1, c .before .before .before .number8 .ensures)
+    (keeps-word (d .pre .room) (wordIn b) (omega (arith, e .before .before .shared-slice-known .given 0)))
 
 returns-3 : tie.Need-returns-3
 returns-3 c = let d = c .before .before .before .before .before .before in let b = now (d .args .b) in
@@ -61,6 +70,8 @@ noted-spec =
     (tie.spec
     past-requires
     with-shape-requires
+    word-byte
+    number8-requires
     put-word-requires
     put-request-requires
     with-request-requires

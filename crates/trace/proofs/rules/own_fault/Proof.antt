@@ -17,8 +17,11 @@ use Rattle.trace.proofs.rules.own_fault.Tie as tie
 shape-fault-requires : tie.Need-shape-fault-requires
 shape-fault-requires c κs = says-shape (now (c .before .before .args .b)) (c .match .keys1) (c .before .before .pre .0) .long
 
+word-byte : tie.Need-shared-slice-read-word-fault
+word-byte c = let d = c .before .before .before in omega (arith, says-word (now (d .args .b)) (c .before .match .keys2) (d .pre .0) .long)
+
 word-fault-requires : tie.Need-word-fault-requires
-word-fault-requires c κs = (says-word (now (c .before .before .args .b)) (c .match .keys2) (c .before .before .pre .0) .long, c .before .before .pre .1)
+word-fault-requires c κs = c .before .before .before .pre .1
 
 request-fault-requires : tie.Need-request-fault-requires
 request-fault-requires c κs = (says-request (now (c .before .before .args .b)) (c .match .keys3) (c .before .before .pre .0) .long, c .before .before .pre .2)
@@ -33,11 +36,12 @@ returns c = let said = says-shape (now (c .before .before .before .args .b)) (c 
 
 returns-2 : tie.Need-returns-2
 unfolding ownFault
-returns-2 c = let said = says-word (now (c .before .before .before .args .b)) (c .before .match .keys2) (c .before .before .before .pre .0) in
-    let a = getD (now (c .before .before .before .args .b)) 0 0 in
+returns-2 c = let d = c .before .before .before .before in
+    let said = says-word (now (d .args .b)) (c .before .before .match .keys2) (d .pre .0) in
+    let a = getD (now (d .args .b)) 0 0 in
     record {
       is = λ before known.
-          let mark = known .marks-are a (omega (arith, c .before .before .shared-slice-known .given 0)) in
+          let mark = known .marks-are a (omega (arith, c .before .before .before .shared-slice-known .given 0)) in
           rw (said .is) (c .word-fault .ensures ∙ rw mark (mark-test (given (wordsGiven before) a)));
     }
 
@@ -68,6 +72,7 @@ own-fault-spec =
     tie.close
     (tie.spec
     shape-fault-requires
+    word-byte
     word-fault-requires
     request-fault-requires
     event-fault-requires

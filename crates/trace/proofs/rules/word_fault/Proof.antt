@@ -1,15 +1,8 @@
 -- `word_fault` meets its contract: the mark at the address decides.
-use native.Mathlib.Omega.{arith}
 use borrow.Author.Tests.{eq-eqb, ne-eqb}
 use borrow.Author.Needs.{needs}
 use Rattle.trace.proofs.rules.word_fault.Statement.{statement}
 use Rattle.trace.proofs.rules.word_fault.Tie as tie
-
-cast-a : tie.Need-cast-a
-cast-a c = omega (arith, c .shared-slice-known .given 0)
-
-element-copy-out-if1 : tie.Need-element-copy-out-if1
-element-copy-out-if1 c = omega (arith, c .shared-slice-known .given 0)
 
 returns : tie.Need-returns
 returns c = simp (eq-eqb _ _ (c .if1 .taken))
@@ -18,5 +11,4 @@ returns-2 : tie.Need-returns-2
 returns-2 c = simp (ne-eqb _ _ (c .if1 .left))
 
 pub word-fault-spec : {M : Type 1} → statement M
-word-fault-spec =
-    tie.close (tie.spec (λ c. search needs) cast-a element-copy-out-if1 returns returns-2)
+word-fault-spec = tie.close (tie.spec (λ c. search needs) returns returns-2)
