@@ -17,6 +17,21 @@ abbrev μ-loop : tie.MeasureT-loop
 loop-holds : tie.Need-loop-holds Inv-loop μ-loop
 loop-holds c = (omega arith, filled-none)
 
+value-of-requires : tie.Need-value-of-requires Inv-loop μ-loop
+value-of-requires c κs = search needs
+
+mul-replies : tie.Need-mul-replies Inv-loop μ-loop
+mul-replies c = search needs
+
+slice-write-replies : tie.Need-slice-write-replies Inv-loop μ-loop
+slice-write-replies c = search needs
+
+add-t : tie.Need-add-t Inv-loop μ-loop
+add-t c = search needs
+
+loop-less : tie.Need-loop-less Inv-loop μ-loop
+loop-less c = search needs
+
 loop-again : tie.Need-loop-again Inv-loop μ-loop
 loop-again c = (omega arith, filled-more (c .before .before .loop .inv .1) (omega arith) (c .value-of .ensures))
 
@@ -33,11 +48,11 @@ copy-values-spec =
     Inv-loop
     μ-loop
     loop-holds
-    (λ c κs. search needs)
-    (λ c. search needs)
-    (λ c. search needs)
-    (λ c. search needs)
-    (λ c. search needs)
+    value-of-requires
+    mul-replies
+    slice-write-replies
+    add-t
+    loop-less
     loop-again
     same-length
     returns)

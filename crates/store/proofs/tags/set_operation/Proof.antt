@@ -5,8 +5,47 @@ use Rattle.store.proofs.Tagged.{code-below, operation-set}
 use Rattle.store.proofs.tags.set_operation.Statement.{statement}
 use Rattle.store.proofs.tags.set_operation.Tie as tie
 
+words-of-requires : tie.Need-words-of-requires
+words-of-requires c κs = search needs
+
+add-with-code : tie.Need-add-with-code
+add-with-code c = search needs
+
+mul-with-code : tie.Need-mul-with-code
+mul-with-code c = search needs
+
+element-copy-out-with-code : tie.Need-element-copy-out-with-code
+element-copy-out-with-code c = search needs
+
 with-code-requires : tie.Need-with-code-requires
 with-code-requires c κs = code-below (c .before .before .args .f) (c .before .words-of .result) (c .before .words-of .ensures)
+
+add-m : tie.Need-add-m
+add-m c = search needs
+
+mul-m : tie.Need-mul-m
+mul-m c = search needs
+
+element-write-m : tie.Need-element-write-m
+element-write-m c = search needs
+
+add-m-2 : tie.Need-add-m-2
+add-m-2 c = search needs
+
+mul-m-2 : tie.Need-mul-m-2
+mul-m-2 c = search needs
+
+element-write-m-2 : tie.Need-element-write-m-2
+element-write-m-2 c = search needs
+
+add-m-3 : tie.Need-add-m-3
+add-m-3 c = search needs
+
+mul-m-3 : tie.Need-mul-m-3
+mul-m-3 c = search needs
+
+element-write-m-3 : tie.Need-element-write-m-3
+element-write-m-3 c = search needs
 
 returns : tie.Need-returns
 returns c = let s = c .before .before .before in
@@ -17,18 +56,18 @@ pub set-operation-spec : {M : Type 1} → statement M
 set-operation-spec =
     tie.close
     (tie.spec
-    (λ c κs. search needs)
-    (λ c. search needs)
-    (λ c. search needs)
-    (λ c. search needs)
+    words-of-requires
+    add-with-code
+    mul-with-code
+    element-copy-out-with-code
     with-code-requires
-    (λ c. search needs)
-    (λ c. search needs)
-    (λ c. search needs)
-    (λ c. search needs)
-    (λ c. search needs)
-    (λ c. search needs)
-    (λ c. search needs)
-    (λ c. search needs)
-    (λ c. search needs)
+    add-m
+    mul-m
+    element-write-m
+    add-m-2
+    mul-m-2
+    element-write-m-2
+    add-m-3
+    mul-m-3
+    element-write-m-3
     returns)
