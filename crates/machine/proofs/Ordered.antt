@@ -12,6 +12,7 @@ use Rattle.lists.specs.Search.{only}
 use Rattle.lists.specs.Count.{count, same}
 use Rattle.lists.proofs.Tests.{eqb-cases, test-clash}
 use Rattle.lists.proofs.Every.{all-map}
+use Rattle.lists.proofs.Below.{length-below}
 use Rattle.lists.proofs.Counts.{same-no, count-append, itself, counted-all, no-longer}
 use Rattle.lists.proofs.Stacks.{concat, stack, stack-count}
 use Rattle.machine.specs.Setup.{Setup, Message, Reply, place}
@@ -27,7 +28,7 @@ use Rattle.machine.proofs.Singly.{reads-member}
 use Rattle.machine.proofs.Invariant.{Invariant, kept, segment}
 use Rattle.machine.proofs.Return.{oldest-reply}
 use Rattle.machine.proofs.Progress.{Live}
-use Rattle.machine.proofs.Start.{tags-once, tags-inside, tags-length}
+use Rattle.machine.proofs.Start.{tags-once, tags-inside}
 use Rattle.machine.proofs.Drain.{below-answered}
 
 module _ (S : Setup) where
@@ -67,7 +68,7 @@ module _ (S : Setup) where
     order-once u = omega (arith, line-count u, tags-once R u)
 
     pub order-length : length (st .order) ≤ R
-    order-length = omega (arith, no-longer (st .order) (tagsBelow R) (λ u. omega (arith, line-count u)), tags-length R)
+    order-length = omega (arith, no-longer (st .order) (tagsBelow R) (λ u. omega (arith, line-count u)), length-below R itself)
 
     -- what is collected is in the list
     pub collected-member : (t : ℕ) (v : Word) → st .answers t ≡ some v → List·Memᴰ t (st .order)

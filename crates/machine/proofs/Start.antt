@@ -5,9 +5,9 @@ use mathlib.Core.Logic.{_≢_}
 use mathlib.Core.List.{List, [], _∷_, _++_}
 use native.Mathlib.Decide.{ℕ-discrete, decLt}
 use native.Mathlib.Omega.{arith}
-use lib.ListN.{length, length-append}
 use lib.Dec.{ltb}
 use Rattle.lists.specs.Choice.{choose}
+use Rattle.lists.specs.Table.{listBelow}
 use Rattle.lists.specs.Search.{All, nil, cons}
 use Rattle.lists.specs.Count.{count, same}
 use Rattle.lists.proofs.Tests.{by-cases, eqb-cases, ltb-cases}
@@ -26,12 +26,12 @@ use Rattle.machine.proofs.Progress.{Live}
 
 -- ---- the tags of a trace
 tags-above : (n u : ℕ) → n ≤ u → count itself u (tagsBelow n) ≡ 0
-unfolding tagsBelow
+unfolding listBelow
 tags-above zero u l = refl
 tags-above (suc n) u l = let m : n ≢ u = (λ e. omega arith) in rw count-append (omega (arith, tags-above n u (omega arith), same-no m))
 
 tags-below : (n u : ℕ) → u < n → count itself u (tagsBelow n) ≡ 1
-unfolding tagsBelow
+unfolding listBelow
 tags-below zero u l = absurd (omega arith)
 tags-below (suc n) u l = by-cases (ℕ-discrete n u)
     (λ (e : n ≡ u). rw (count-append, e) (omega (arith, tags-above u u (omega arith), same-yes u)))
@@ -42,11 +42,6 @@ tags-once n u = by-cases (decLt u n) (λ (l : u < n). omega (arith, tags-below n
 
 pub tags-inside : (n u : ℕ) → 1 ≤ count itself u (tagsBelow n) → u < n
 tags-inside n u h = by-cases (decLt u n) (λ (l : u < n). l) (λ (l : ¬ (u < n)). absurd (omega (arith, tags-above n u (omega arith))))
-
-pub tags-length : (n : ℕ) → length (tagsBelow n) ≡ n
-unfolding tagsBelow
-tags-length zero = refl
-tags-length (suc n) = rw (length-append, tags-length n) (omega arith)
 
 module _ (S : Setup) where
   open Setup S using (k, R, engineOf, addressOf, position)
@@ -113,7 +108,7 @@ module _ (S : Setup) where
   place-cases u f g = by-cases (decLt u R) (λ (l : u < R). f l (place-request u l)) (λ (n : ¬ (u < R)). let l : R ≤ u = omega arith in g l (place-none u l))
 
   tags-placed : (n : ℕ) → n ≤ R → All (λ t. startPlaces t ≡ 0) (tagsBelow n)
-  unfolding tagsBelow
+  unfolding listBelow
   tags-placed zero l = nil
   tags-placed (suc n) l = all-append (tags-placed n (omega arith)) (cons (place-request n l) nil)
 

@@ -4,13 +4,13 @@ use mathlib.Core.List.{List, [], _∷_, _++_}
 use mathlib.Core.Option.{Option, none}
 use lib.Dec.{eqb}
 use Rattle.lists.specs.Choice.{choose}
+use Rattle.lists.specs.Table.{listBelow}
 use Rattle.machine.specs.Setup.{Setup, Message, WaitRecord, Reply, place}
 use Rattle.machine.specs.Arrival.{recordsOf}
 
 -- the tags below n, ascending
-unfoldable pub tagsBelow : ℕ → List ℕ
-tagsBelow zero = []
-tagsBelow (suc n) = tagsBelow n ++ (n ∷ [])
+abbrev pub tagsBelow : ℕ → List ℕ
+tagsBelow n = listBelow n (λ t. t)
 
 module _ (S : Setup) where
   open Setup S using (Word, R, engineOf, addressOf, operationOf)

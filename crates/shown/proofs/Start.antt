@@ -5,6 +5,7 @@ use mathlib.Core.List.{List, [], _∷_, _++_, map}
 use native.Mathlib.Omega.{arith}
 use lib.Dec.{eqb}
 use Rattle.lists.specs.Choice.{choose}
+use Rattle.lists.specs.Table.{listBelow}
 use Rattle.lists.specs.Search.{All, nil, cons, only}
 use Rattle.lists.proofs.Tests.{test-cases}
 use Rattle.lists.proofs.Every.{all-map}
@@ -26,7 +27,7 @@ module _ (x : Network) where
       let z : suc t + n ≡ t + suc n = omega arith in ap (λ (l : List ℕ). t ∷ l) (tags-longer n (suc t) ∙ ap (λ (u : ℕ). tagsFrom n (suc t) ++ (u ∷ [])) z)
 
   tags-all : (n : ℕ) → tagsFrom n 0 ≡ tagsBelow n
-  unfolding tagsBelow tagsFrom
+  unfolding listBelow tagsFrom
   tags-all zero = refl
   tags-all (suc n) = let z : 0 + n ≡ n = omega arith in tags-longer n 0 ∙ ap₂ (λ (l : List ℕ) (u : ℕ). l ++ (u ∷ [])) (tags-all n) z
 

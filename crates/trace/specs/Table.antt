@@ -36,7 +36,7 @@ requestRow = row 3 3 (1 ∷ 1 ∷ 1 ∷ 8 ∷ 8 ∷ [])
 abbrev pub eventRow : Row
 eventRow = row 4 4 (1 ∷ 1 ∷ 1 ∷ []) (λ f. act (event (record { what = getD f 0 0; level = getD f 1 0; position = getD f 2 0 })))
 
--- "5 drain: most rounds allowed 2"
+-- "5 drain: most rounds allowed", two bytes
 abbrev pub drainRow : Row
 drainRow = row 5 4 (2 ∷ []) (λ f. act (drain (getD f 0 0)))
 
