@@ -11,8 +11,8 @@ use borrow.Author.Tests.{lt-ltb, le-ltb}
 use Rattle.lists.specs.Search.{All, nil, cons}
 use Rattle.lists.proofs.Tests.{by-cases}
 use Rattle.lists.proofs.Every.{all-append}
-use Rattle.digits.specs.Numeral.{digit, numeralIn, numeral, decimal}
-use Rattle.digits.specs.Inner.Value.{binary, valueFrom, valueIn}
+use Rattle.digits.specs.Numeral.{digit, numeralIn, numeral, decimal, valueFrom, valueIn}
+use Rattle.digits.specs.Inner.Value.{binary}
 
 valueFrom-append : (base n : ℕ) (ds es : List ℕ) → valueFrom base n (ds ++ es) ≡ valueFrom base (valueFrom base n ds) es
 unfolding valueFrom

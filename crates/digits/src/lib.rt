@@ -7,6 +7,8 @@ ghost use Rattle.digits.specs.Numeral.{digit, decimal};
 ghost use Rattle.digits.specs.Line.{line};
 ghost use Rattle.digits.specs.Inner.Buffer.{Wrote};
 
+pub mod read;
+
 // A line of a name and a number.
 pub fn put_line(out: &mut [u8], at: usize, name: &[u8], n: u64) -> usize
     requires { ⌜ at + length (line (now name ∷ decimal n ∷ [])) ≤ length (now out) ⌝ }

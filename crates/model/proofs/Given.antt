@@ -12,7 +12,7 @@ use Rattle.store.specs.Inner.Memory.{view}
 use Rattle.trace.specs.Item.{Items}
 use Rattle.trace.specs.Contents.{requestsOf}
 use Rattle.results.specs.Inner.Copied.{valuesIn, marksIn}
-use Rattle.results.specs.Over.{over}
+use Rattle.lists.specs.Over.{over}
 use Rattle.run.specs.Results.{Results, resultsOf}
 use Rattle.run.specs.Inner.Run.{RanTo}
 use Rattle.run.proofs.Results.{resultsIn, results-are}

@@ -12,8 +12,8 @@ use Rattle.text.specs.Text.{lineRoom, replyLine, orderLine, replyLines, orderLi
 use Rattle.text.proofs.Sections.{Section, replies, orders}
 use Rattle.view.specs.Inner.View.{View}
 use Rattle.results.specs.Inner.Copied.{valueIn, valuesIn, markIn, marksIn}
-use Rattle.results.specs.Over.{over}
-use Rattle.results.proofs.Over.{over-at}
+use Rattle.lists.specs.Over.{over}
+use Rattle.lists.proofs.Over.{over-at}
 use Rattle.report.specs.Inner.Lines.{Printable, repliesIn, ordersIn, textIn}
 
 -- ---- a section looks only at the places below its count: a list copied over the front of an array gives the same lines as the list itself

@@ -6,7 +6,7 @@ use lib.ListN.{length, take}
 use lib.Dec.{leb}
 use Rattle.lists.specs.Choice.{choose}
 use Rattle.text.specs.Text.{lineRoom}
-use Rattle.results.specs.Over.{over}
+use Rattle.lists.specs.Over.{over}
 use Rattle.report.specs.Report.{report}
 use Rattle.report.specs.declared.Written.{Written}
 

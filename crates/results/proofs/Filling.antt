@@ -7,7 +7,7 @@ use lib.ListN.{length, getD, drop, set, length-set}
 use lib.Seq.{drop-cons, set-at}
 use Rattle.lists.specs.Table.{listBelow}
 use Rattle.lists.proofs.Below.{length-below, below-is}
-use Rattle.results.specs.Over.{over}
+use Rattle.lists.specs.Over.{over}
 
 -- the first i places have f's values, and the others what was lent
 pub record Filled (f : ℕ → ℕ) (old l : List ℕ) (i : ℕ) : Type 0 where

@@ -1,3 +1,2 @@
 -- How a lent slice is filled, and what it then holds.
 pub mod Filling
-pub mod Over

@@ -1,3 +1,2 @@
 -- What a run leaves in lent memory.
-pub mod Over
 pub mod Inner

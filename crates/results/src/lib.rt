@@ -8,7 +8,7 @@ ghost use Prim.Native.Nat.{_≤_, _<_};
 ghost use lib.ListN.{length};
 ghost use Rattle.store.specs.Inner.Memory.{view};
 ghost use Rattle.results.specs.Inner.Copied.{valueIn, valuesIn, markIn, marksIn};
-ghost use Rattle.results.specs.Over.{over};
+ghost use Rattle.lists.specs.Over.{over};
 
 // "first R reply values (0 where unanswered)"
 pub fn copy_values(m: &Machine, n: usize, replies: &mut [u64])

@@ -14,7 +14,7 @@ use Rattle.lists.proofs.Tests.{clash}
 use Rattle.trace.specs.Bytes.{AreBytes}
 use Rattle.trace.specs.Item.{Item, Items, none, after}
 use Rattle.trace.specs.Table.{size}
-use Rattle.trace.specs.Inner.Write.{recordOf, traceOf}
+use Rattle.trace.specs.Write.{recordOf, traceOf}
 use Rattle.trace.specs.Inner.Fits.{AllFitBytes, none-fit, after-fit}
 use Rattle.trace.specs.Records.{Records, done, broken, next, records, recordsUpTo}
 use Rattle.trace.specs.Refusals.{fault}

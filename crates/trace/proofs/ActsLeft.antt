@@ -17,7 +17,7 @@ use Rattle.event.specs.Event.{Act}
 use Rattle.trace.specs.Bytes.{AreBytes, number, fieldsIn, total}
 use Rattle.trace.specs.Item.{Item, act, Items, none, after}
 use Rattle.trace.specs.Table.{Row, eventRow, drainRow, bodySize, partsOf, rowOf, section, recordSize, size}
-use Rattle.trace.specs.Inner.Write.{bytes, recordOf, traceOf}
+use Rattle.trace.specs.Write.{bytes, recordOf, traceOf}
 use Rattle.trace.specs.Inner.Fits.{FitsBytes, AllFitBytes, after-fit}
 use Rattle.trace.specs.Contents.{contents, add, actsOf, lastSection, actsAt}
 use Rattle.trace.specs.Refusals.{fault}

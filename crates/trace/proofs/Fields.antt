@@ -7,7 +7,7 @@ use native.Mathlib.Nat.{add-assoc}
 use lib.ListN.{length, take, drop, length-append}
 use lib.Seq.{take-add, drop-drop}
 use Rattle.trace.specs.Bytes.{AreBytes, fieldsIn, total}
-use Rattle.trace.specs.Inner.Write.{bytes, fieldBytes}
+use Rattle.trace.specs.Write.{bytes, fieldBytes}
 use Rattle.trace.specs.Inner.Fits.{FieldsFit, no-field, field-fits}
 use Rattle.trace.proofs.Numbers.{number-drop, number-below, length-bytes, bytes-number, number-bytes}
 

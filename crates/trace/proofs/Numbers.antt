@@ -12,7 +12,7 @@ use Rattle.lists.proofs.Tests.{by-cases}
 use Rattle.words.specs.Inner.Digits.{byteIn}
 use Rattle.words.proofs.Digits.{digit-zero, digit-suc}
 use Rattle.trace.specs.Bytes.{AreBytes, number}
-use Rattle.trace.specs.Inner.Write.{bytes}
+use Rattle.trace.specs.Write.{bytes}
 
 pub bytes-drop : {s : List ℕ} → AreBytes s → (n : ℕ) → AreBytes (drop n s)
 bytes-drop {s} b n = record { below = λ i. rw (getD-drop n s i 0) (b .below (n + i)) }

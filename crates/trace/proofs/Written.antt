@@ -8,11 +8,11 @@ use lib.ListN.{length, take, drop, length-append, take-append-drop}
 use lib.Seq.{take-add, take-at, drop-at, take-all}
 use Rattle.lists.proofs.Tests.{clash}
 use Rattle.trace.specs.Bytes.{AreBytes, fieldsIn}
-use Rattle.trace.specs.Inner.Write.{bytes, fieldBytes}
+use Rattle.trace.specs.Write.{bytes, fieldBytes}
 use Rattle.trace.specs.Inner.Fits.{FieldsFit}
 use Rattle.trace.specs.Item.{Item}
 use Rattle.trace.specs.Table.{bodySize, isRow, bodyRow, item, Parts, partsOf, rowOf, recordSize}
-use Rattle.trace.specs.Inner.Write.{recordOf}
+use Rattle.trace.specs.Write.{recordOf}
 use Rattle.trace.specs.Inner.Fits.{FitsBytes}
 use Rattle.trace.specs.Records.{Split, nothing, faulty, whole, split, Records, next, divided, records}
 use Rattle.trace.proofs.Numbers.{bytes-drop, bytes-take, bytes-number, number-bytes}

@@ -5,4 +5,3 @@ pub mod Known
 pub mod Masked
 pub mod Ranges
 pub mod Told
-pub mod Write

@@ -2,6 +2,7 @@
 pub mod Bytes
 pub mod Item
 pub mod Table
+pub mod Write
 pub mod Records
 pub mod Contents
 pub mod Refusals

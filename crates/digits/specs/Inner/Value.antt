@@ -1,15 +1,15 @@
--- The number that digits spell, and numerals to base 2: what a reader of numerals (No. 1, 6) and of a dump (No. 13) starts from.
-use Prim.Native.Nat.{ℕ, _+_, _*_, _-_}
-use mathlib.Core.List.{List, [], _∷_}
-use Rattle.digits.specs.Numeral.{digit, numeral}
+-- Numerals to base 2 (No. 13), and what a text spells as the code tells it.
+use Prim.Native.Nat.{ℕ, _^_}
+use mathlib.Core.List.{List}
+use lib.Dec.{ltb}
+use Rattle.lists.specs.Choice.{choose}
+use Rattle.digits.specs.Numeral.{numeral, valueIn, isDecimal}
+use Rattle.digits.specs.declared.read.Spelled.{Spelled}
+use Rattle.digits.specs.declared.read.Spelled.the-variants.{NoNumber, TooLarge, Number}
 
 abbrev pub binary : ℕ → List ℕ
 binary = numeral 2
 
--- the number that digits spell, behind those that spell n
-unfoldable pub valueFrom : ℕ → ℕ → List ℕ → ℕ
-valueFrom base n [] = n
-valueFrom base n (d ∷ ds) = valueFrom base (n * base + (d - digit 0)) ds
-
-abbrev pub valueIn : ℕ → List ℕ → ℕ
-valueIn base = valueFrom base 0
+-- no number in decimal; one that does not fit in 64 bits; or the number
+unfoldable pub spelled : List ℕ → Spelled
+spelled f = choose (isDecimal f) (choose (ltb (valueIn 10 f) (2 ^ 64)) (Number (valueIn 10 f)) TooLarge) NoNumber

@@ -7,7 +7,7 @@ use lib.ListN.{length}
 use Rattle.view.specs.Inner.View.{View}
 use Rattle.store.specs.Inner.Memory.{view}
 use Rattle.results.specs.Inner.Copied.{valuesIn, marksIn}
-use Rattle.results.specs.Over.{over}
+use Rattle.lists.specs.Over.{over}
 use Rattle.run.specs.Results.{Results}
 use Rattle.model.specs.Result.{Lent, roomFor, acceptance, memoryAfter}
 use Rattle.model.specs.Promise.{counted, said}

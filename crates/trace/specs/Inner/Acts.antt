@@ -7,7 +7,7 @@ use Rattle.lists.specs.Search.{All}
 use Rattle.event.specs.Event.{Act}
 use Rattle.trace.specs.Item.{act, Items}
 use Rattle.trace.specs.Table.{recordSize}
-use Rattle.trace.specs.Inner.Write.{recordOf}
+use Rattle.trace.specs.Write.{recordOf}
 use Rattle.trace.specs.Inner.Fits.{FitsBytes}
 use Rattle.trace.specs.Contents.{actsOf, actsAt}
 use Rattle.trace.specs.declared.acts.Due.{Due}

@@ -5,9 +5,9 @@ use mathlib.Core.List.{List}
 use native.Mathlib.Omega.{arith}
 use lib.ListN.{length, getD, drop, List·getD-append}
 use lib.Seq.{drop-at}
 use Rattle.lists.specs.Table.{listBelow}
 use Rattle.lists.proofs.Below.{length-below, getD-below}
-use Rattle.results.specs.Over.{over}
+use Rattle.lists.specs.Over.{over}
 
 pub over-at : (new old : List ℕ) (i : ℕ) → i < length new → getD (over new old) i 0 ≡ getD new i 0
 over-at new old i l = List·getD-append new (drop (length new) old) 0 i l

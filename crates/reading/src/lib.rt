@@ -1,0 +1,1 @@
+// The items that a text of lines says, as rows for the writer: request No. 1 of document 02.
