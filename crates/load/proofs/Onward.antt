@@ -20,9 +20,11 @@ onward-run s p end passed section-is = record {
         short = i .short;
         at-inside = passed .inside;
         room = record {
-          acts-at-low = omega (arith, i .room .acts-at-low, passed .onward);
-          requests-low = i .room .requests-low;
-          marks-size = i .room .marks-size;
+          known = record {
+            acts-at-low = omega (arith, i .room .known .acts-at-low, passed .onward);
+            requests-low = i .room .known .requests-low;
+            marks-size = i .room .known .marks-size;
+          };
           words-size = i .room .words-size;
         };
         so-far = record {

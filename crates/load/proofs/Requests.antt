@@ -18,7 +18,8 @@ use Rattle.trace.proofs.Records.{is-whole, body-at}
 use Rattle.trace.proofs.Ranges.{requestFault, request-right}
 use Rattle.trace.proofs.Runs.{header-whole}
 use Rattle.load.specs.Inner.Loop.{RequestPut, Inside, pastRequests, RequestsPassed, RequestsOnward}
-use Rattle.load.proofs.Keeps.{keeps-request}
+use Rattle.trace.proofs.Known.{notes-request}
+use Rattle.load.proofs.Keeps.{put-request}
 use Rattle.load.proofs.Verdicts.{turn-go}
 
 -- behind a request another may follow, so its own faults decide
@@ -69,7 +70,10 @@ requests-one-more {s} {p} {n} {m} {m′} {m″} {b} are passed room header is cl
           let j = passed .run section-is marks words i in
           subst (λ (q : Progress). Inside s q marks words m″) (one-past p n section-is)
           (turn-go j (h .stands) (h .inside) (h .bodied) (rw (said .is) (request-found section-is clean)) (asked (moved (pastRequests p n) 3 19)) marks words m″
-          (rw (said .is) (keeps-request (j .room) (requestIn b) (request-right (p .k) (p .requests + n) (requestIn b) clean .0) m″ put)) .1);
+          (rw (said .is) (record {
+            noted = notes-request (j .room .known) (requestIn b) (request-right (p .k) (p .requests + n) (requestIn b) clean .0);
+            put = put-request (j .room .words-size) (requestIn b) m″ put;
+          })) .1);
     }
 
 pub requests-onward : {s : List ℕ} {p : Progress} {n : ℕ} {m m′ : List ℕ} → RequestsPassed s p n m m′ → p .section ≡ 3 →

@@ -84,17 +84,17 @@ module _ {s : List ℕ} {p : Progress} {marks words m : List ℕ} (i : Inside s 
     turn-go inside bodied found p′ marks′ words′ m′ keeps =
         let r = i .so-far in
         let clean : fault (r .before) (item kind b) ≡ 0 = sym (found .is (r .before) (r .known)) in
-        let at-is : p′ .at ≡ p .at + (4 + length b) = omega (arith, keeps .at-is, size-item kind b (bodied .right)) in (
+        let at-is : p′ .at ≡ p .at + (4 + length b) = omega (arith, keeps .noted .at-is, size-item kind b (bodied .right)) in (
           omega arith,
           record {
             short = i .short;
             at-inside = omega (arith, inside);
-            room = keeps .room;
+            room = record { known = keeps .noted .room; words-size = keeps .put .words-size };
             so-far = record {
               before = after (r .before) (item kind b);
-              known = keeps .known (r .before) (r .known) clean;
-              marks-sized = keeps .room .marks-size;
-              loaded = keeps .loaded (r .before) (r .known) (r .loaded) clean;
+              known = keeps .noted .known (r .before) (r .known) clean;
+              marks-sized = keeps .noted .room .marks-size;
+              loaded = keeps .put .loaded (r .before) _ (r .known) (r .loaded) clean;
               verdict =
                   r .verdict ∙ check-whole (r .before) (drop (p .at) s) kind b e
                   ∙ rw (clean, at-is) (ap (λ (l : List ℕ). checkRecords (after (r .before) (item kind b)) (records l)) (drop-drop (4 + length b) (p .at) s));
@@ -113,9 +113,7 @@ inside-start s short = record {
   short = short;
   at-inside = omega arith;
   room = record {
-    acts-at-low = omega arith;
-    requests-low = omega arith;
-    marks-size = length-replicate {A = ℕ} 256 0;
+    known = record { acts-at-low = omega arith; requests-low = omega arith; marks-size = length-replicate {A = ℕ} 256 0 };
     words-size = length-replicate {A = ℕ} 256 0;
   };
   so-far = record {

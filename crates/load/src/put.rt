@@ -5,20 +5,18 @@ ghost use lib.ListN.{length, getD, set};
 ghost use Rattle.store.specs.Inner.Layout.{size as machineSize};
 ghost use Rattle.trace.specs.Table.{item};
 ghost use Rattle.trace.specs.Inner.Known.{requestIn};
-ghost use Rattle.load.specs.Inner.Loop.{MayNote, Keeps, RequestPut};
+ghost use Rattle.load.specs.Inner.Loop.{MayPut, Put, MayNote, Keeps, RequestPut};
 use operation::Words;
 use store::Machine;
 use trace::bytes::number8;
+use trace::progress;
 use trace::progress::Progress;
 
-fn put_word(address: u8, value: u64, marks: &mut [u8; 256], words: &mut [u64; 256])
-    requires { ⌜ (length (now marks) ≡ 256) × (length (now words) ≡ 256) ⌝ }
-    ensures { λ _. ⌜ now (marks .exit) ≡ set (now (marks .entry)) address 1 ⌝ }
+fn put_word(address: u8, value: u64, words: &mut [u64; 256])
+    requires { ⌜ length (now words) ≡ 256 ⌝ }
     ensures { λ _. ⌜ now (words .exit) ≡ set (now (words .entry)) address value ⌝ }
 {
-    let a = address as usize;
-    marks[a] = 1;
-    words[a] = value;
+    words[address as usize] = value;
 }
 
 pub fn put_request(b: &[u8], k: u8, t: usize, m: &mut Machine)
@@ -35,6 +33,18 @@ pub fn put_request(b: &[u8], k: u8, t: usize, m: &mut Machine)
     store::tags::put_request(m, t, address, path, asked);
 }
 
+// What a record that is not refused leaves in the memory and in the machine: a word's value, or a request.
+fn put(b: &[u8], kind: u64, p: Progress, words: &mut [u64; 256], m: &mut Machine)
+    requires { ⌜ MayPut kind (now b) p (now words) (now m) ⌝ }
+    ensures { λ _. ⌜ Put (item kind (now (b .entry))) p (now (words .entry)) (now (m .entry)) (now (words .exit)) (now (m .exit)) ⌝ }
+{
+    match kind {
+        2 => put_word(b[0], number8(b, 1), words),
+        3 => put_request(b, p.k, p.requests, m),
+        _ => {}
+    }
+}
+
 // Past a record that is not refused.
 pub fn noted(
     b: &[u8],
@@ -49,17 +59,6 @@ pub fn noted(
     ensures { λ r. ⌜ Keeps (item kind (now (b .entry))) p (now (marks .entry)) (now (words .entry)) (now (m .entry)) r
         (now (marks .exit)) (now (words .exit)) (now (m .exit)) ⌝ }
 {
-    let next = p.past(section, b.len());
-    match kind {
-        1 => next.with_shape(b),
-        2 => {
-            put_word(b[0], number8(b, 1), marks, words);
-            next
-        }
-        3 => {
-            put_request(b, p.k, p.requests, m);
-            next.with_request()
-        }
-        _ => next,
-    }
+    put(b, kind, p, words, m);
+    progress::noted(b, kind, section, p, marks)
 }

@@ -1,8 +1,9 @@
 // What is known after the records before an offset.
 ghost use mathlib.Core.Path.{_≡_};
 ghost use Prim.Native.Nat.{_≤_};
-ghost use lib.ListN.{length};
-ghost use Rattle.trace.specs.Inner.Known.{shapeIn, begun, moved, shaped, asked};
+ghost use lib.ListN.{length, set};
+ghost use Rattle.trace.specs.Table.{item};
+ghost use Rattle.trace.specs.Inner.Known.{shapeIn, begun, moved, shaped, asked, MayNote, Noted};
 
 pub struct Progress {
     pub at: usize,
@@ -60,5 +61,29 @@ impl Progress {
     {
         self.requests = self.requests + 1;
         self
+    }
+}
+
+fn mark(address: u8, marks: &mut [u8; 256])
+    requires { ⌜ length (now marks) ≡ 256 ⌝ }
+    ensures { λ _. ⌜ now (marks .exit) ≡ set (now (marks .entry)) address 1 ⌝ }
+{
+    marks[address as usize] = 1;
+}
+
+// Past a record that is not refused: its shape, a mark at its word's address, or one request more.
+pub fn noted(b: &[u8], kind: u64, section: u8, p: Progress, marks: &mut [u8; 256]) -> Progress
+    requires { ⌜ MayNote kind section (now b) p (now marks) ⌝ }
+    ensures { λ r. ⌜ Noted (item kind (now (b .entry))) p (now (marks .entry)) r (now (marks .exit)) ⌝ }
+{
+    let next = p.past(section, b.len());
+    match kind {
+        1 => next.with_shape(b),
+        2 => {
+            mark(b[0], marks);
+            next
+        }
+        3 => next.with_request(),
+        _ => next,
     }
 }

@@ -31,7 +31,7 @@ returns-3 c = loaded-fail (c .before .t .given .0 .0) (rw (c .before .t .given .
 
 past-requests-requires : tie.Need-past-requests-requires Inv-loop μ-loop
 past-requests-requires c κs = let i = rw (c .before .before .t2 .given .1) at (c .before .before .before .before .one-turn .ensures) .1 in
-    ((i .at-inside, i .short, i .so-far .known .k-low, i .room .requests-low, i .so-far .loaded .sized), i .room .acts-at-low)
+    ((i .at-inside, i .short, i .so-far .known .k-low, i .room .known .requests-low, i .so-far .loaded .sized), i .room .known .acts-at-low)
 
 past-acts-requires : tie.Need-past-acts-requires Inv-loop μ-loop
 past-acts-requires c κs = let r = rw (c .before .before .before .t2 .given .1) at (c .before .before .before .before .before .one-turn .ensures) in

@@ -2,6 +2,7 @@
 -- function names it.
 use Prim.Native.Nat.{ℕ, _+_, _*_, _≤_, _<_, _^_}
 use mathlib.Core.Path.{_≡_}
+use mathlib.Core.Bool.{true}
 use mathlib.Core.List.{List}
 use lib.ListN.{length, getD, drop}
 use lib.Dec.{eqb}
@@ -12,13 +13,13 @@ use Rattle.view.specs.Inner.View.{withRequest}
 use Rattle.store.specs.Inner.Layout.{size as machineSize}
 use Rattle.store.specs.Inner.Memory.{view, Becomes}
 use Rattle.trace.specs.Item.{Request, Item, Items, after}
-use Rattle.trace.specs.Table.{recordSize}
+use Rattle.trace.specs.Table.{isRow, bodyRow}
 use Rattle.trace.specs.Records.{records}
 use Rattle.trace.specs.Contents.{shapeOf, wordsGiven, requestsOf, startWords}
 use Rattle.trace.specs.Refusals.{fault}
 use Rattle.trace.specs.Check.{Verdict, refused, ended, checkRecords, check}
 use Rattle.trace.specs.Answers.{numberOf}
-use Rattle.trace.specs.Inner.Known.{Known, Bodied}
+use Rattle.trace.specs.Inner.Known.{Known, Room as RoomToKnow, MayNote as MayKnow, Noted}
 use Rattle.trace.specs.declared.Fault.the-variants.{Order}
 use Rattle.trace.specs.declared.Answer.{Answer}
 use Rattle.trace.specs.declared.Answer.the-variants.{Refused, Accepted}
@@ -35,9 +36,7 @@ pub record LoadedSoFar (before : Items) (words m : List ℕ) : Type 0 where
 
 -- the marks and the words have their lengths, and the sums fit
 pub record Room (p : Progress) (marks words : List ℕ) : Type 0 where
-  pub acts-at-low : p .«acts_at» ≤ p .at
-  pub requests-low : p .requests ≤ 256
-  pub marks-size : length marks ≡ 256
+  pub known : RoomToKnow p marks
   pub words-size : length words ≡ 256
 
 -- the request r is put into the machine at the tag t, with its path
@@ -46,22 +45,30 @@ pub record RequestPut (k : ℕ) (r : Request) (t : ℕ) (m m′ : List ℕ) : Ty
   pub path-is : PathOf k (r .engine) (moduleOf k (r .address)) path
   pub becomes : Becomes m′ (withRequest (view m) t (r .address) path (askedBy r))
 
--- what a step past a record asks
-pub record MayNote (kind section : ℕ) (b : List ℕ) (p : Progress) (marks words m : List ℕ) : Type 0 where
-  pub bodied : Bodied kind section b
-  pub at-low : p .at ≤ 65536
-  pub k-low : p .k ≤ 4
+-- what putting a record's item asks
+pub record MayPut (kind : ℕ) (b : List ℕ) (p : Progress) (words m : List ℕ) : Type 0 where
+  pub right : isRow (bodyRow kind (length b)) ≡ true
   pub few : kind ≡ 3 → p .requests < 256
+  pub k-low : p .k ≤ 4
   pub engine-below : kind ≡ 3 → getD b 0 0 < 2 ^ p .k
-  pub room : Room p marks words
+  pub words-size : length words ≡ 256
   pub sized : length m ≡ machineSize
 
--- and what it keeps, where the item x is not refused
+-- and what a step past it asks
+pub record MayNote (kind section : ℕ) (b : List ℕ) (p : Progress) (marks words m : List ℕ) : Type 0 where
+  pub known : MayKnow kind section b p marks
+  pub put : MayPut kind b p words m
+
+-- what the item x leaves in the memory and in the machine, where it is not refused
+pub record Put (x : Item) (p : Progress) (words m words′ m′ : List ℕ) : Type 0 where
+  pub words-size : length words′ ≡ 256
+  pub loaded : (before : Items) (marks : List ℕ) → Known before p marks → LoadedSoFar before words m → fault before x ≡ 0 →
+      LoadedSoFar (after before x) words′ m′
+
+-- and what a step past it keeps
 pub record Keeps (x : Item) (p : Progress) (marks words m : List ℕ) (p′ : Progress) (marks′ words′ m′ : List ℕ) : Type 0 where
-  pub at-is : p′ .at ≡ p .at + recordSize x
-  pub room : Room p′ marks′ words′
-  pub known : (before : Items) → Known before p marks → fault before x ≡ 0 → Known (after before x) p′ marks′
-  pub loaded : (before : Items) → Known before p marks → LoadedSoFar before words m → fault before x ≡ 0 → LoadedSoFar (after before x) words′ m′
+  pub noted : Noted x p marks p′ marks′
+  pub put : Put x p words m words′ m′
 
 -- the answer where the trace ends
 abbrev pub reading : Progress → Answer

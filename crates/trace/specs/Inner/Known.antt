@@ -9,8 +9,8 @@ use lib.Dec.{ltb}
 use Rattle.lists.specs.Choice.{choose}
 use Rattle.event.specs.Event.{Event}
 use Rattle.trace.specs.Bytes.{number}
-use Rattle.trace.specs.Item.{Shape, Word, Request, Item, Items}
-use Rattle.trace.specs.Table.{bodySize, isRow, kindRow, bodyRow, rowOf, section, size}
+use Rattle.trace.specs.Item.{Shape, Word, Request, Item, Items, after}
+use Rattle.trace.specs.Table.{bodySize, isRow, kindRow, bodyRow, rowOf, section, recordSize, size}
 use Rattle.trace.specs.Records.{records}
 use Rattle.trace.specs.Contents.{contents, shapeOf, wordsGiven, requestsOf, given, lastSection, actsAt}
 use Rattle.trace.specs.Refusals.{ownFault, fault}
@@ -96,6 +96,26 @@ shaped p s =
 abbrev pub asked : Progress → Progress
 asked p =
     record { at = p .at; section = p .section; k = p .k; q = p .q; w = p .w; requests = p .requests + 1; «acts_at» = p .«acts_at» }
+
+-- ---- past a record that is not refused
+-- the sums fit, and a mark stands for each address
+pub record Room (p : Progress) (marks : List ℕ) : Type 0 where
+  pub acts-at-low : p .«acts_at» ≤ p .at
+  pub requests-low : p .requests ≤ 256
+  pub marks-size : length marks ≡ 256
+
+-- what the step asks
+pub record MayNote (kind section : ℕ) (b : List ℕ) (p : Progress) (marks : List ℕ) : Type 0 where
+  pub bodied : Bodied kind section b
+  pub at-low : p .at ≤ 65536
+  pub few : kind ≡ 3 → p .requests < 256
+  pub room : Room p marks
+
+-- and what is known behind the item x
+pub record Noted (x : Item) (p : Progress) (marks : List ℕ) (p′ : Progress) (marks′ : List ℕ) : Type 0 where
+  pub at-is : p′ .at ≡ p .at + recordSize x
+  pub room : Room p′ marks′
+  pub known : (before : Items) → Known before p marks → fault before x ≡ 0 → Known (after before x) p′ marks′
 
 -- the same but for the acts
 pub record Same (xs ys : Items) : Type 0 where

@@ -23,20 +23,22 @@ body-requires c κs = rw (c .before .found2 .given .1) at (c .before .before .be
 record-fault-requires : tie.Need-record-fault-requires
 record-fault-requires c κs =
     let h = at-body (c .before) in
-    let i = c .before .before .before .before .before .before .before .pre in (h .bodied, i .room .marks-size, i .so-far .known .k-low)
+    let i = c .before .before .before .before .before .before .before .pre in (h .bodied, i .room .known .marks-size, i .so-far .known .k-low)
 
 noted-requires : tie.Need-noted-requires
 noted-requires c κs = let h = at-body (c .before .before .before .before .before .before .before) in
     let i = c .before .before .before .before .before .before .before .before .before .before .before .before .before .pre in
     let found = rw (c .before .before .before .enum-told2 .given .1) at (c .before .before .before .before .before .record-fault .ensures) in
     record {
-      bodied = h .bodied;
-      at-low = omega (arith, i .at-inside, i .short);
-      k-low = i .so-far .known .k-low;
-      few = λ three. clean-request i (h .stands) (h .bodied) found three .0;
-      engine-below = λ three. clean-request i (h .stands) (h .bodied) found three .1;
-      room = i .room;
-      sized = i .so-far .loaded .sized;
+      known = record { bodied = h .bodied; at-low = omega (arith, i .at-inside, i .short); few = λ three. clean-request i (h .stands) (h .bodied) found three .0; room = i .room .known };
+      put = record {
+        right = h .bodied .right;
+        few = λ three. clean-request i (h .stands) (h .bodied) found three .0;
+        k-low = i .so-far .known .k-low;
+        engine-below = λ three. clean-request i (h .stands) (h .bodied) found three .1;
+        words-size = i .room .words-size;
+        sized = i .so-far .loaded .sized;
+      };
     }
 
 returns : tie.Need-returns
