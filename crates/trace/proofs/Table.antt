@@ -10,7 +10,7 @@ use lib.Dec.{ltb, eqb}
 use borrow.Author.Tests.{ltb-true, eqb-true, ne-eqb}
 use Rattle.lists.specs.Choice.{choose, both}
 use Rattle.lists.specs.Search.{All, nil, cons}
-use Rattle.lists.proofs.Tests.{both-true, clash}
+use Rattle.lists.proofs.Tests.{both-true, clash, test-clash}
 use Rattle.event.specs.Event.{Act, event, drain}
 use Rattle.trace.specs.Bytes.{number, fieldsIn, total}
 use Rattle.trace.specs.Item.{Word, Request, Item, shape, word, request, act}
@@ -107,6 +107,33 @@ row-told kind len is =
     let found = first-right (λ r. both (eqb kind (r .kind)) (eqb len (bodySize r))) rows-right is in
     let tests = both-true (eqb kind (bodyRow kind len .kind)) (eqb len (bodySize (bodyRow kind len))) (found .1) in
     record { right = found .0; kind-is = eqb-true kind _ (tests .0); size-is = eqb-true len _ (tests .1) }
+
+-- ---- the row of a kind: what holds of each row holds of it
+pub kind-all : {P : Row → Type 0} → All P rows → (kind : ℕ) → isRow (kindRow kind) ≡ true → P (kindRow kind)
+unfolding kindRow
+kind-all ps kind is = first-right (λ r. eqb kind (r .kind)) ps is .0
+
+pub kind-right : (kind : ℕ) → isRow (kindRow kind) ≡ true → RowRight (kindRow kind)
+kind-right = kind-all rows-right
+
+pub kind-found : (kind : ℕ) → isRow (kindRow kind) ≡ true → kind ≡ kindRow kind .kind
+unfolding kindRow
+kind-found kind is = eqb-true kind _ (first-right (λ r. eqb kind (r .kind)) rows-right is .1)
+
+-- and where there is none
+none-found : (test : Row → Bool) {rs : List Row} → All RowRight rs → isRow (firstRow test rs) ≡ false → firstRow test rs ≡ noRow
+unfolding firstRow
+none-found test nil is = refl
+none-found test (cons {x = r} {xs = rs} p ps) is = go (none-found test ps) (test r) is
+  where
+    go : (isRow (firstRow test rs) ≡ false → firstRow test rs ≡ noRow) → (t : Bool) → isRow (choose t r (firstRow test rs)) ≡ false →
+        choose t r (firstRow test rs) ≡ noRow
+    go on true h = test-clash (p .is-row) h
+    go on false h = on h
+
+pub kind-none : (kind : ℕ) → isRow (kindRow kind) ≡ false → kindRow kind ≡ noRow
+unfolding kindRow
+kind-none kind = none-found (λ r. eqb kind (r .kind)) rows-right
 
 -- ---- each item
 pub record ItemRight (x : Item) : Type 0 where

@@ -21,10 +21,10 @@ use Rattle.trace.proofs.Table.{item-right, row-told, row-sizes, item-is
 use Rattle.trace.proofs.Records.{records-divided, records-whole, Whole, whole-is, is-whole}
 
 -- the body of an item has the size that the table says
-abbrev bodyOf : Item → List ℕ
+abbrev pub bodyOf : Item → List ℕ
 bodyOf x = fieldBytes (rowOf x .widths) (partsOf x .fields)
 
-length-body : (x : Item) → length (bodyOf x) ≡ bodySize (rowOf x)
+pub length-body : (x : Item) → length (bodyOf x) ≡ bodySize (rowOf x)
 length-body x = length-field-bytes (rowOf x .widths) (partsOf x .fields) (item-right x .many)
 
 pub length-record : (x : Item) → length (recordOf x) ≡ recordSize x
@@ -36,7 +36,7 @@ row-of-body : (x : Item) → bodyRow (rowOf x .kind) (length (bodyOf x)) ≡ row
 row-of-body x = rw (length-body x) (item-right x .row-right .found)
 
 -- the body of an item says that item
-item-body : (x : Item) → FitsBytes x → item (rowOf x .kind) (bodyOf x) ≡ x
+pub item-body : (x : Item) → FitsBytes x → item (rowOf x .kind) (bodyOf x) ≡ x
 item-body x fits =
     let read : fieldsIn (rowOf x .widths) (bodyOf x) 0 ≡ partsOf x .fields = rw append-nil at (fields-written fits [] []) in
     item-is (rowOf x .kind) (bodyOf x) (row-of-body x) ∙ ap (rowOf x .make) read ∙ item-right x .made

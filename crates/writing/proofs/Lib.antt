@@ -1,0 +1,7 @@
+-- The laws of rows and of writing.
+pub mod Bytes
+pub mod Bodies
+pub mod Entries
+pub mod Lists
+pub mod Sizes
+pub mod Puts
