@@ -5,3 +5,4 @@ pub mod Entries
 pub mod Lists
 pub mod Sizes
 pub mod Puts
+pub mod Checks

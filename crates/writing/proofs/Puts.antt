@@ -5,18 +5,18 @@ use mathlib.Core.List.{List, [], _++_}
 use native.Mathlib.Nat.{zero-add}
 use native.Mathlib.Numerals.{add-one}
 use native.Mathlib.Omega.{arith}
-use lib.ListN.{length, length-append}
+use lib.ListN.{length, take, length-append}
 use lib.Seq.{length-sets}
 use Rattle.digits.specs.Inner.Buffer.{Wrote}
-use Rattle.digits.proofs.Buffer.{wrote-nothing, wrote-then, wrote-printed}
+use Rattle.digits.proofs.Buffer.{wrote-nothing, wrote-then, wrote-printed, printed-within, printed-text}
 use Rattle.lists.specs.Over.{over}
 use Rattle.trace.specs.Table.{bodySize}
 use Rattle.trace.specs.Write.{bytes}
 use Rattle.writing.specs.Rows.{Rows, rowCount, kindAt}
 use Rattle.writing.specs.Inner.Records.{rowAt, bodyAt, recordAt, recordsTo, RowIn}
 use Rattle.writing.specs.Inner.Sizes.{sizeTo}
-use Rattle.writing.proofs.Entries.{length-record-at}
-use Rattle.writing.proofs.Sizes.{size-grows}
+use Rattle.writing.proofs.Entries.{length-body-at, length-record-at}
+use Rattle.writing.proofs.Sizes.{size-grows, body-few}
 
 pub record-wrote : (r : Rows) (i : ℕ) {size kind : ℕ} → size ≡ bodySize (rowAt r i) → kind ≡ kindAt r i → {before first second after : List ℕ} {at next body end : ℕ} →
     Wrote before at (bytes 2 size) first next → Wrote first next (bytes 2 kind) second body → Wrote second body (bodyAt r i) after end →
@@ -24,6 +24,17 @@ pub record-wrote : (r : Rows) (i : ℕ) {size kind : ℕ} → size ≡ bodySize 
 unfolding recordAt
 record-wrote r i {size} {kind} s k {before} {first} {second} {after} {at} {next} {body} {end} w v u =
     rw (← s, ← k) (wrote-then w (wrote-then v u))
+
+-- a body stands at the start of an array that has room for the longest
+pub record Stands (text after : List ℕ) (end : ℕ) : Type 0 where
+  pub within : end ≤ length after
+  pub text-is : take end after ≡ text
+  pub size : end ≡ length (take end after)
+
+pub body-stands : (r : Rows) (i : ℕ) {before after : List ℕ} {end : ℕ} → Wrote before 0 (bodyAt r i) after end → length before ≡ 19 → Stands (bodyAt r i) after end
+body-stands r i w e =
+    let p = wrote-printed w (omega (arith, w .behind, length-body-at r i, body-few (kindAt r i), e)) in
+    record { within = printed-within p; text-is = printed-text p; size = p .size ∙ ap length (sym (printed-text p)) }
 
 -- a row that is counted stands whole in all slices
 pub row-in : (r : Rows) (i : ℕ) → i < rowCount r → RowIn r i

@@ -1,14 +1,12 @@
 // The rows checked by the reader's rules: 10, then row by row, the first faulty one deciding.
 ghost use mathlib.Core.Path.{_≡_};
-ghost use Prim.Native.Nat.{_*_, _≤_};
+ghost use Prim.Native.Nat.{_*_, _≤_, _<_};
 ghost use lib.ListN.{length};
-ghost use Rattle.trace.specs.Check.{checkRecords};
-ghost use Rattle.trace.specs.Item.{none};
-ghost use Rattle.trace.specs.Inner.Known.{Room};
-ghost use Rattle.writing.specs.Rows.{rows, rowCount, entry, entries};
-ghost use Rattle.writing.specs.Writing.{recordsOf, listSize};
-ghost use Rattle.writing.specs.Inner.Records.{RowIn};
-ghost use Rattle.writing.specs.Inner.Checked.{RowTurn, IsChecked};
+ghost use Rattle.trace.specs.Table.{item};
+ghost use Rattle.trace.specs.Inner.Known.{Bodied};
+ghost use Rattle.writing.specs.Rows.{rows, rowCount, entries};
+ghost use Rattle.writing.specs.Writing.{listSize};
+ghost use Rattle.writing.specs.Inner.Checked.{MayCheck, BodyTurn, Inside, RowTurn, verdictOf, IsChecked};
 ghost use Rattle.writing.specs.Inner.Sizes.{IsTooLong};
 use crate::record::kind_at;
 use crate::record::kind_of;
@@ -51,12 +49,22 @@ pub fn too_long(heads: &[u16], n: usize) -> bool
     false
 }
 
+// A body of a known kind, by the reader's rules.
+fn one_body(b: &[u8], kind: u64, section: u8, p: Progress, marks: &mut [u8; 256]) -> Turn
+    requires { ⌜ Bodied kind section (now b) × MayCheck p (now marks) ⌝ }
+    ensures { λ r. ⌜ BodyTurn (item kind (now (b .entry))) p (now (marks .entry)) r (now (marks .exit)) ⌝ }
+{
+    let finding = record_fault(b, kind, section, p, marks);
+    match finding {
+        Finding::Clean => Turn::Go(noted(b, kind, section, p, marks)),
+        Finding::Faulty(f) => Turn::Fail(f),
+    }
+}
+
 // Row i, where the rows before it are known.
 fn one_row(heads: &[u16], bytes: &[u8], words: &[u64], i: usize, p: Progress, marks: &mut [u8; 256]) -> Turn
-    requires { ⌜ RowIn (rows (now heads) (now bytes) (now words)) i ⌝ }
-    requires { ⌜ Room p (now marks) × (p .at ≤ 65536) × (p .k ≤ 4) ⌝ }
-    ensures { λ r. ⌜ RowTurn (entry (rows (now (heads .entry)) (now (bytes .entry)) (now (words .entry))) i) p (now (marks .entry)) r
-        (now (marks .exit)) ⌝ }
+    requires { ⌜ (i < rowCount (rows (now heads) (now bytes) (now words))) × Inside (rows (now heads) (now bytes) (now words)) i p (now marks) ⌝ }
+    ensures { λ r. ⌜ RowTurn (rows (now (heads .entry)) (now (bytes .entry)) (now (words .entry))) i p r (now (marks .exit)) ⌝ }
 {
     let kind = kind_at(heads, i);
     let told = kind_of(kind);
@@ -65,19 +73,14 @@ fn one_row(heads: &[u16], bytes: &[u8], words: &[u64], i: usize, p: Progress, ma
     }
     let mut body = [0u8; LONGEST_BODY];
     let end = put_body(heads, bytes, words, i, &mut body, 0);
-    let b = &body[..end];
-    let finding = record_fault(b, kind as u64, told.section, p, marks);
-    match finding {
-        Finding::Clean => Turn::Go(noted(b, kind as u64, told.section, p, marks)),
-        Finding::Faulty(f) => Turn::Fail(f),
-    }
+    one_body(&body[..end], kind as u64, told.section, p, marks)
 }
 
 // All rows, one by one.
 pub fn check_rows(heads: &[u16], bytes: &[u8], words: &[u64], n: usize) -> Checked
     requires { ⌜ n ≡ rowCount (rows (now heads) (now bytes) (now words)) ⌝ }
     requires { ⌜ listSize (entries (rows (now heads) (now bytes) (now words))) ≤ 65536 ⌝ }
-    ensures { λ r. ⌜ IsChecked (checkRecords none (recordsOf (entries (rows (now (heads .entry)) (now (bytes .entry)) (now (words .entry)))))) r ⌝ }
+    ensures { λ r. ⌜ IsChecked (verdictOf (rows (now (heads .entry)) (now (bytes .entry)) (now (words .entry)))) r ⌝ }
 {
     let mut p = Progress::start();
     let mut marks = [0u8; 256];
