@@ -6,3 +6,4 @@ pub mod Lists
 pub mod Sizes
 pub mod Puts
 pub mod Checks
+pub mod Results

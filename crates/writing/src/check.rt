@@ -62,7 +62,14 @@ fn one_body(b: &[u8], kind: u64, section: u8, p: Progress, marks: &mut [u8; 256]
 }
 
 // Row i, where the rows before it are known.
-fn one_row(heads: &[u16], bytes: &[u8], words: &[u64], i: usize, p: Progress, marks: &mut [u8; 256]) -> Turn
+fn one_row(
+    heads: &[u16],
+    bytes: &[u8],
+    words: &[u64],
+    i: usize,
+    p: Progress,
+    marks: &mut [u8; 256],
+) -> Turn
     requires { ⌜ (i < rowCount (rows (now heads) (now bytes) (now words))) × Inside (rows (now heads) (now bytes) (now words)) i p (now marks) ⌝ }
     ensures { λ r. ⌜ RowTurn (rows (now (heads .entry)) (now (bytes .entry)) (now (words .entry))) i p r (now (marks .exit)) ⌝ }
 {

@@ -30,7 +30,11 @@ pub fn write(heads: &[u16], bytes: &[u8], words: &[u64], out: &mut [u8]) -> Writ
     }
     let found = check::check_rows(heads, bytes, words, n);
     match found {
-        Checked::Faulty(f, offset, row) => refused(trace::number_of(f) as u64, offset as u64, row as u64),
+        Checked::Faulty(f, offset, row) => refused(
+            trace::number_of(f) as u64,
+            offset as u64,
+            row as u64,
+        ),
         Checked::Clean(size) => {
             if out.len() < size {
                 return refused(12, 0, 0);

@@ -19,12 +19,30 @@ pub fn kind_of(kind: u16) -> Kind
     ensures { λ r. ⌜ r ≡ kindSays kind ⌝ }
 {
     match kind {
-        1 => Kind { section: 1, size: 3 },
-        2 => Kind { section: 2, size: 9 },
-        3 => Kind { section: 3, size: 19 },
-        4 => Kind { section: 4, size: 3 },
-        5 => Kind { section: 4, size: 2 },
-        _ => Kind { section: 0, size: 0 },
+        1 => Kind {
+            section: 1,
+            size: 3,
+        },
+        2 => Kind {
+            section: 2,
+            size: 9,
+        },
+        3 => Kind {
+            section: 3,
+            size: 19,
+        },
+        4 => Kind {
+            section: 4,
+            size: 3,
+        },
+        5 => Kind {
+            section: 4,
+            size: 2,
+        },
+        _ => Kind {
+            section: 0,
+            size: 0,
+        },
     }
 }
 
@@ -76,7 +94,14 @@ fn eight_at(words: &[u64], i: usize, j: usize) -> u64
 }
 
 // The first one-byte numbers of row i, and its first eight-byte one.
-fn put_ones_and_eight(bytes: &[u8], words: &[u64], i: usize, ones: usize, out: &mut [u8], at: usize) -> usize
+fn put_ones_and_eight(
+    bytes: &[u8],
+    words: &[u64],
+    i: usize,
+    ones: usize,
+    out: &mut [u8],
+    at: usize,
+) -> usize
     requires { ⌜ (10 * i + ones ≤ length (now bytes)) × (8 * i < length (now words)) × (at + ones + 8 ≤ length (now out)) ⌝ }
     ensures { λ r. ⌜ Wrote (now (out .entry)) at (take ones (drop (10 * i) (now (bytes .entry))) ++ spelled 8 (getD (now (words .entry)) (8 * i + 0) 0))
         (now (out .exit)) r ⌝ }
@@ -86,7 +111,14 @@ fn put_ones_and_eight(bytes: &[u8], words: &[u64], i: usize, ones: usize, out: &
 }
 
 // The body of row i's record: each field is the next of its width.
-pub fn put_body(heads: &[u16], bytes: &[u8], words: &[u64], i: usize, out: &mut [u8], at: usize) -> usize
+pub fn put_body(
+    heads: &[u16],
+    bytes: &[u8],
+    words: &[u64],
+    i: usize,
+    out: &mut [u8],
+    at: usize,
+) -> usize
     requires { ⌜ RowIn (rows (now heads) (now bytes) (now words)) i ⌝ }
     requires { ⌜ at + bodySize (rowAt (rows (now heads) (now bytes) (now words)) i) ≤ length (now out) ⌝ }
     ensures { λ r. ⌜ Wrote (now (out .entry)) at (bodyAt (rows (now (heads .entry)) (now (bytes .entry)) (now (words .entry))) i) (now (out .exit)) r ⌝ }
@@ -105,7 +137,14 @@ pub fn put_body(heads: &[u16], bytes: &[u8], words: &[u64], i: usize, out: &mut 
 }
 
 // Row i's record: the length of its body, its kind, its body.
-pub fn put_record(heads: &[u16], bytes: &[u8], words: &[u64], i: usize, out: &mut [u8], at: usize) -> usize
+pub fn put_record(
+    heads: &[u16],
+    bytes: &[u8],
+    words: &[u64],
+    i: usize,
+    out: &mut [u8],
+    at: usize,
+) -> usize
     requires { ⌜ RowIn (rows (now heads) (now bytes) (now words)) i ⌝ }
     requires { ⌜ at + 4 + bodySize (rowAt (rows (now heads) (now bytes) (now words)) i) ≤ length (now out) ⌝ }
     ensures { λ r. ⌜ Wrote (now (out .entry)) at (recordAt (rows (now (heads .entry)) (now (bytes .entry)) (now (words .entry))) i) (now (out .exit)) r ⌝ }

@@ -26,10 +26,12 @@ put-number-requires-2 : tie.Need-put-number-requires-2
 put-number-requires-2 c κs = room-behind (c .before .before .before .put-number .ensures) 2 2 (length-bytes 2 _) (omega (arith, c .before .before .before .before .before .before .before .before .before .before .before .pre .1))
 
 put-body-requires : tie.Need-put-body-requires
-put-body-requires c κs = let d = c .before .before .before .before .before .before .before .before .before .before .before .before .before .before .before in
-    (d .pre .0, room-behind (wrote-then (c .before .before .before .before .before .before .before .put-number .ensures) (c .before .before .before .put-number2 .ensures)) 4
-    (bodySize (rowAt (rows (now (d .args .heads)) (now (d .args .bytes)) (now (d .args .words))) (d .args .i)))
-    (length-append (bytes 2 _) (bytes 2 _) ∙ omega (arith, length-bytes 2 (c .before .before .before .before .before .before .before .before .before .kind-of .result .size), length-bytes 2 (c .before .before .before .before .before .before .before .before .before .before .kind-at .result))) (d .pre .1))
+put-body-requires c κs = let d = c .before .before .before .before .before .before .before .before .before .before .before .before .before .before .before in (
+  d .pre .0,
+  room-behind (wrote-then (c .before .before .before .before .before .before .before .put-number .ensures) (c .before .before .before .put-number2 .ensures)) 4
+      (bodySize (rowAt (rows (now (d .args .heads)) (now (d .args .bytes)) (now (d .args .words))) (d .args .i)))
+      (length-append (bytes 2 _) (bytes 2 _) ∙ omega (arith, length-bytes 2 (c .before .before .before .before .before .before .before .before .before .kind-of .result .size), length-bytes 2 (c .before .before .before .before .before .before .before .before .before .before .kind-at .result))) (d .pre .1),
+)
 
 returns : tie.Need-returns
 returns c = let a = c .before .before .before .before .before .before .before .before .before .before .before .before .before .before .before .before .before .before .args in
