@@ -10,7 +10,7 @@ use Rattle.digits.specs.Numeral.{decimal}
 use Rattle.digits.proofs.Numerals.{numeral-length}
 use Rattle.event.specs.Event.{Act, event, drain}
 use Rattle.trace.specs.Item.{Item, act}
-use Rattle.trace.specs.Table.{item, isRow, bodyRow, partsOf, rowOf}
+use Rattle.trace.specs.Table.{isRow, bodyRow, partsOf, rowOf}
 use Rattle.trace.proofs.Table.{says-act, kind-item}
 use Rattle.lines.specs.Forms.{operations, whats}
 use Rattle.listing.specs.Inner.Fields.{operationShown, whatShown}

@@ -1,6 +1,6 @@
 -- The walk over the records of an accepted trace: its start, a record more, and its end.
 use Prim.Native.Nat.{ℕ, zero, suc, _+_, _*_, _≤_}
-use mathlib.Core.Path.{_≡_, refl, sym, _∙_, ap, subst}
+use mathlib.Core.Path.{_≡_, refl, sym, _∙_, ap}
 use mathlib.Core.Bool.{Bool, true, false}
 use mathlib.Core.List.{List}
 use native.Mathlib.Omega.{arith}
@@ -26,7 +26,8 @@ not-refused : {G : Type 0} {v : Verdict} {n : ℕ} {before xs : Items} → v ≡
 not-refused e f = clash (cc)
 
 -- an accepted trace is short
-choice-short : (s : List ℕ) (rest : Verdict) {xs : Items} (t : Bool) → ltb 65536 (length s) ≡ t → choose t (refused 10 none) rest ≡ accepted xs → length s ≤ 65536
+choice-short : (s : List ℕ) (rest : Verdict) {xs : Items} (t : Bool) → ltb 65536 (length s) ≡ t →
+    choose t (refused 10 none) rest ≡ accepted xs → length s ≤ 65536
 choice-short s rest true e h = clash (cc)
 choice-short s rest false e h = ltb-false 65536 (length s) e
 

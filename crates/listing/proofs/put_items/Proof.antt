@@ -26,17 +26,20 @@ head-due-requires c κs = c .loop .inv .1 .inside
 returns : tie.Need-returns Inv-loop μ-loop
 returns c =
     let start = c .before .before .before .before .before .before in
-    walk-ends (start .pre .0) (c .before .before .before .loop .inv .1) (sym (rw (c .enum-told .given .1) at (c .before .before .head-due .ensures .says))) (start .pre .1)
+    let head = c .before .before .head-due .ensures in
+    walk-ends (start .pre .0) (c .before .before .before .loop .inv .1) (sym (rw (c .enum-told .given .1) at (head .says))) (start .pre .1)
 
 returns-2 : tie.Need-returns-2 Inv-loop μ-loop
 returns-2 c =
     let start = c .before .before .before .before .before .before in
-    walk-whole (start .pre .0) (c .before .before .before .loop .inv .1) (sym (rw (c .enum-told2 .given .1) at (c .before .before .head-due .ensures .says)))
+    let head = c .before .before .head-due .ensures in
+    walk-whole (start .pre .0) (c .before .before .before .loop .inv .1) (sym (rw (c .enum-told2 .given .1) at (head .says)))
 
 -- the record that stands where the walk has come to
 at-body : (c : tie.After-body Inv-loop μ-loop) →
     let r = c .before .before .found .given .0 in
-    Body (now (c .before .before .before .before .before .before .before .before .args .trace)) (c .before .before .before .before .before .loop .at) (r .0) (r .1 .0) (r .1 .1 .0) (now (c .body .result))
+    let turn = c .before .before .before .before .before in
+    Body (now (turn .before .before .before .args .trace)) (turn .loop .at) (r .0) (r .1 .0) (r .1 .1 .0) (now (c .body .result))
 at-body c =
     let told = c .before .before .found .given .1 in
     let head = c .before .before .before .before .head-due .ensures in
@@ -58,10 +61,14 @@ put-item-requires c κs =
     (body .bodied .right, walk-room (start .pre .0) (inv .1) body (omega (arith, inv .0, start .pre .1)))
 
 add-at : tie.Need-add-at Inv-loop μ-loop
-add-at c = let e = c .before .before .before .before in omega (arith, at-body e .inside, long e, c .before .before .before .before .before .before .before .before .before .before .before .before .pre .0 .short)
+add-at c =
+    let e = c .before .before .before .before in
+    omega (arith, at-body e .inside, long e, e .before .before .before .before .before .before .before .before .pre .0 .short)
 
 add-at-2 : tie.Need-add-at-2 Inv-loop μ-loop
-add-at-2 c = let e = c .before .before .before .before in omega (arith, at-body e .inside, long e, c .before .before .before .before .before .before .before .before .before .before .before .before .pre .0 .short)
+add-at-2 c =
+    let e = c .before .before .before .before in
+    omega (arith, at-body e .inside, long e, e .before .before .before .before .before .before .before .before .pre .0 .short)
 
 loop-less : tie.Need-loop-less Inv-loop μ-loop
 loop-less c = let e = c .before .before .before .before in omega (arith, at-body e .inside, long e)
@@ -70,8 +77,9 @@ loop-again : tie.Need-loop-again Inv-loop μ-loop
 loop-again c =
     let e = c .before .before .before .before in
     let written = c .before .before .put-item in
-    let inv = c .before .before .before .before .before .before .before .before .before .loop .inv in
-    (omega (arith, inv .0), walk-goes (c .before .before .before .before .before .before .before .before .before .before .before .before .pre .0) (inv .1) (at-body e) (long e) (written .ensures .0) (written .ensures .1))
+    let turn = e .before .before .before .before .before in
+    let inv = turn .loop .inv in
+    (omega (arith, inv .0), walk-goes (turn .before .before .before .pre .0) (inv .1) (at-body e) (long e) (written .ensures .0) (written .ensures .1))
 
 pub put-items-spec : {M : Type 1} → statement M
 put-items-spec =

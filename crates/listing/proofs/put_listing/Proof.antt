@@ -13,10 +13,15 @@ put-refused-requires : tie.Need-put-refused-requires
 put-refused-requires c κs = omega (arith, c .before .before .before .before .before .before .before .before .before .before .before .pre)
 
 put-items-requires : tie.Need-put-items-requires
-put-items-requires c κs = (loaded-accepted (c .before .before .before .load .ensures) (c .before .enum-told .given .1), c .before .before .before .before .before .before .before .before .before .pre)
+put-items-requires c κs =
+    let loaded = c .before .before .before in
+    (loaded-accepted (loaded .load .ensures) (c .before .enum-told .given .1), loaded .before .before .before .before .before .before .pre)
 
 returns : tie.Need-returns
-returns c = printed-refused (c .before .before .before .before .before .before .before .before .load .ensures) (c .before .before .before .before .before .before .told .given .1) (c .before .before .before .number-of .ensures) (c .before .before .put-refused .ensures)
+returns c =
+    let told = c .before .before .before .before .before .before in
+    let number = c .before .before .before .number-of .ensures in
+    printed-refused (told .before .before .load .ensures) (told .told .given .1) number (c .before .before .put-refused .ensures)
 
 pub put-listing-spec : {M : Type 1} → statement M
 put-listing-spec =

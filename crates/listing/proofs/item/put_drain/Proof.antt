@@ -3,7 +3,6 @@ use native.Mathlib.Omega.{arith}
 use lib.ListN.{length-append}
 use borrow.Author.Needs.{needs}
 use Rattle.digits.specs.Numeral.{bytesOf}
-use Rattle.digits.proofs.Buffer.{wrote-within}
 use Rattle.trace.specs.Table.{partsOf}
 use Rattle.lines.specs.Forms.{forms, nameIn, namesAt}
 use Rattle.listing.specs.Listing.{shownFrom, partsLine}

@@ -13,11 +13,26 @@ use Rattle.listing.proofs.item.put_event.Tie as tie
 returns : tie.Need-returns
 unfolding partsLine shownFrom partsOf namesAt forms nameIn bytesOf whatShown
 returns c =
-    let named = c .before .before .before .before .before .before .before .before .before .before .before .before .before .before .before .before .before .put-field .ensures in
-    let what = c .before .before .before .before .before .before .before .before .before .before .before .before .put-what .ensures in
-    let level = c .before .before .before .before .before .before .before .put-byte .ensures in
-    let position = c .before .before .put-byte2 .ensures in
+    let third = c .before .before in
+    let second = third .before .before .before .before .before in
+    let first = second .before .before .before .before .before in
+    let named = first .before .before .before .before .before .put-field .ensures in
+    let what = first .put-what .ensures in
+    let level = second .put-byte .ensures in
+    let position = third .put-byte2 .ensures in
     (wrote-then named (wrote-then (what .0) (wrote-then (level .0) (position .0))), omega (arith, named .behind, what .1, level .1, position .1))
 
 pub put-event-spec : {M : Type 1} → statement M
-put-event-spec = tie.close (tie.spec (λ c. search needs) (λ c κs. search needs) (λ c. search needs) (λ c κs. search needs) (λ c. search needs) (λ c κs. search needs) (λ c. search needs) (λ c κs. search needs) (λ c. search needs) returns)
+put-event-spec =
+    tie.close
+    (tie.spec
+    (λ c. search needs)
+    (λ c κs. search needs)
+    (λ c. search needs)
+    (λ c κs. search needs)
+    (λ c. search needs)
+    (λ c κs. search needs)
+    (λ c. search needs)
+    (λ c κs. search needs)
+    (λ c. search needs)
+    returns)

@@ -12,27 +12,57 @@ use Rattle.listing.proofs.item.put_request.Tie as tie
 
 put-wide-requires-2 : tie.Need-put-wide-requires-2
 put-wide-requires-2 c κs =
-    let named = c .before .before .before .before .before .before .before .before .before .before .before .before .before .before .before .before .before .before .before .before .before .before .before .before .put-field in
-    let engine = c .before .before .before .before .before .before .before .before .before .before .before .before .before .before .before .before .before .before .before .put-byte in
-    let operation = c .before .before .before .before .before .before .before .before .before .before .before .before .before .before .put-operation in
-    let address = c .before .before .before .before .before .before .before .before .before .put-byte2 in
-    let first = c .before .before .before .before .put-wide in
-    omega (arith, named .ensures .behind, engine .ensures .1, operation .ensures .1, address .ensures .1, first .ensures .1, c .before .before .before .before .before .before .before .before .before .before .before .before .before .before .before .before .before .before .before .before .before .before .before .before .before .before .before .before .before .pre .1)
+    let fourth = c .before .before .before .before in
+    let third = fourth .before .before .before .before .before in
+    let second = third .before .before .before .before .before in
+    let first = second .before .before .before .before .before in
+    let named = first .before .before .before .before .before in
+    let short = named .put-field .ensures .behind in
+    omega (
+      arith,
+      named .before .before .before .before .before .pre .1,
+      short,
+      first .put-byte .ensures .1,
+      second .put-operation .ensures .1,
+      third .put-byte2 .ensures .1,
+      fourth .put-wide .ensures .1,
+    )
 
 returns : tie.Need-returns
 unfolding partsLine shownFrom partsOf namesAt forms nameIn bytesOf operationShown
 returns c =
-    let named = c .before .before .before .before .before .before .before .before .before .before .before .before .before .before .before .before .before .before .before .before .before .before .before .before .before .before .before .put-field .ensures in
-    let engine = c .before .before .before .before .before .before .before .before .before .before .before .before .before .before .before .before .before .before .before .before .before .before .put-byte .ensures in
-    let operation = c .before .before .before .before .before .before .before .before .before .before .before .before .before .before .before .before .before .put-operation .ensures in
-    let address = c .before .before .before .before .before .before .before .before .before .before .before .before .put-byte2 .ensures in
-    let first = c .before .before .before .before .before .before .before .put-wide .ensures in
-    let second = c .before .before .put-wide2 .ensures in
-    let numbers = wrote-then (address .0) (wrote-then (first .0) (second .0)) in
+    let fifth = c .before .before in
+    let fourth = fifth .before .before .before .before .before in
+    let third = fourth .before .before .before .before .before in
+    let second = third .before .before .before .before .before in
+    let first = second .before .before .before .before .before in
+    let named = first .before .before .before .before .before .put-field .ensures in
+    let engine = first .put-byte .ensures in
+    let operation = second .put-operation .ensures in
+    let address = third .put-byte2 .ensures in
+    let one = fourth .put-wide .ensures in
+    let two = fifth .put-wide2 .ensures in
+    let numbers = wrote-then (address .0) (wrote-then (one .0) (two .0)) in
     let line = wrote-then named (wrote-then (engine .0) (wrote-then (operation .0) numbers)) in (
-      rw (← (c .before .before .before .before .before .before .before .before .number8 .ensures), ← (c .before .before .before .number82 .ensures)) line,
-      omega (arith, named .behind, engine .1, operation .1, address .1, first .1, second .1),
+      rw (← (fourth .before .number8 .ensures), ← (fifth .before .number82 .ensures)) line,
+      omega (arith, named .behind, engine .1, operation .1, address .1, one .1, two .1),
     )
 
 pub put-request-spec : {M : Type 1} → statement M
-put-request-spec = tie.close (tie.spec (λ c. search needs) (λ c κs. search needs) (λ c. search needs) (λ c κs. search needs) (λ c. search needs) (λ c κs. search needs) (λ c. search needs) (λ c κs. search needs) (λ c κs. search needs) (λ c κs. search needs) (λ c κs. search needs) put-wide-requires-2 (λ c. search needs) returns)
+put-request-spec =
+    tie.close
+    (tie.spec
+    (λ c. search needs)
+    (λ c κs. search needs)
+    (λ c. search needs)
+    (λ c κs. search needs)
+    (λ c. search needs)
+    (λ c κs. search needs)
+    (λ c. search needs)
+    (λ c κs. search needs)
+    (λ c κs. search needs)
+    (λ c κs. search needs)
+    (λ c κs. search needs)
+    put-wide-requires-2
+    (λ c. search needs)
+    returns)

@@ -12,11 +12,26 @@ use Rattle.listing.proofs.item.put_shape.Tie as tie
 returns : tie.Need-returns
 unfolding partsLine shownFrom partsOf namesAt forms nameIn bytesOf
 returns c =
-    let named = c .before .before .before .before .before .before .before .before .before .before .before .before .before .before .before .before .before .put-field .ensures in
-    let k = c .before .before .before .before .before .before .before .before .before .before .before .before .put-byte .ensures in
-    let q = c .before .before .before .before .before .before .before .put-byte2 .ensures in
-    let w = c .before .before .put-byte3 .ensures in
+    let third = c .before .before in
+    let second = third .before .before .before .before .before in
+    let first = second .before .before .before .before .before in
+    let named = first .before .before .before .before .before .put-field .ensures in
+    let k = first .put-byte .ensures in
+    let q = second .put-byte2 .ensures in
+    let w = third .put-byte3 .ensures in
     (wrote-then named (wrote-then (k .0) (wrote-then (q .0) (w .0))), omega (arith, named .behind, k .1, q .1, w .1))
 
 pub put-shape-spec : {M : Type 1} → statement M
-put-shape-spec = tie.close (tie.spec (λ c. search needs) (λ c κs. search needs) (λ c. search needs) (λ c κs. search needs) (λ c. search needs) (λ c κs. search needs) (λ c. search needs) (λ c κs. search needs) (λ c. search needs) returns)
+put-shape-spec =
+    tie.close
+    (tie.spec
+    (λ c. search needs)
+    (λ c κs. search needs)
+    (λ c. search needs)
+    (λ c κs. search needs)
+    (λ c. search needs)
+    (λ c κs. search needs)
+    (λ c. search needs)
+    (λ c κs. search needs)
+    (λ c. search needs)
+    returns)

@@ -15,7 +15,18 @@ returns c =
     let named = c .before .before .before .before .before .before .before .before .before .before .before .before .put-field .ensures in
     let address = c .before .before .before .before .before .before .before .put-byte .ensures in
     let value = c .before .before .put-wide .ensures in
-    (rw (← (c .before .before .before .number8 .ensures)) (wrote-then named (wrote-then (address .0) (value .0))), omega (arith, named .behind, address .1, value .1))
+    let line = wrote-then named (wrote-then (address .0) (value .0)) in
+    (rw (← (c .before .before .before .number8 .ensures)) line, omega (arith, named .behind, address .1, value .1))
 
 pub put-word-spec : {M : Type 1} → statement M
-put-word-spec = tie.close (tie.spec (λ c. search needs) (λ c κs. search needs) (λ c. search needs) (λ c κs. search needs) (λ c κs. search needs) (λ c κs. search needs) (λ c. search needs) returns)
+put-word-spec =
+    tie.close
+    (tie.spec
+    (λ c. search needs)
+    (λ c κs. search needs)
+    (λ c. search needs)
+    (λ c κs. search needs)
+    (λ c κs. search needs)
+    (λ c κs. search needs)
+    (λ c. search needs)
+    returns)
