@@ -6,15 +6,15 @@ ghost use Rattle.digits.specs.Numeral.{decimal};
 ghost use Rattle.digits.specs.Inner.Buffer.{Wrote};
 ghost use Rattle.listing.specs.Inner.Fields.{operationShown, whatShown};
 
-// A byte in decimal.
-pub fn put_byte(out: &mut [u8], at: usize, v: u8, behind: u8) -> usize
+// A number of one byte, in decimal.
+pub fn put_narrow(out: &mut [u8], at: usize, v: u8, behind: u8) -> usize
     requires { ⌜ at + 4 ≤ length (now out) ⌝ }
     ensures { λ r. ⌜ Wrote (now (out .entry)) at (decimal v ++ (behind ∷ [])) (now (out .exit)) r × (r ≤ at + 4) ⌝ }
 {
     digits::put_number(out, at, v as u64, behind)
 }
 
-// Eight bytes in decimal.
+// A number of eight bytes, in decimal.
 pub fn put_wide(out: &mut [u8], at: usize, v: u64, behind: u8) -> usize
     requires { ⌜ at + 21 ≤ length (now out) ⌝ }
     ensures { λ r. ⌜ Wrote (now (out .entry)) at (decimal v ++ (behind ∷ [])) (now (out .exit)) r × (r ≤ at + 21) ⌝ }
@@ -32,7 +32,7 @@ pub fn put_operation(out: &mut [u8], at: usize, v: u8) -> usize
         1 => digits::put_field(out, at, b"swap", b' '),
         2 => digits::put_field(out, at, b"add", b' '),
         3 => digits::put_field(out, at, b"mask", b' '),
-        _ => put_byte(out, at, v, b' '),
+        _ => put_narrow(out, at, v, b' '),
     }
 }
 
@@ -47,6 +47,6 @@ pub fn put_what(out: &mut [u8], at: usize, v: u8) -> usize
         2 => digits::put_field(out, at, b"module", b' '),
         3 => digits::put_field(out, at, b"return", b' '),
         4 => digits::put_field(out, at, b"collect", b' '),
-        _ => put_byte(out, at, v, b' '),
+        _ => put_narrow(out, at, v, b' '),
     }
 }

@@ -10,7 +10,7 @@ ghost use Rattle.trace.specs.Item.{shape, word, request, act};
 ghost use Rattle.trace.specs.Table.{item, isRow, bodyRow};
 ghost use Rattle.trace.specs.Inner.Known.{shapeIn, wordIn, requestIn, eventIn};
 ghost use Rattle.listing.specs.Listing.{itemLine};
-use crate::field::put_byte;
+use crate::field::put_narrow;
 use crate::field::put_operation;
 use crate::field::put_what;
 use crate::field::put_wide;
@@ -38,9 +38,9 @@ fn put_shape(b: &[u8], out: &mut [u8], at: usize) -> usize
     ensures { λ r. ⌜ Wrote (now (out .entry)) at (itemLine (shape (shapeIn (now (b .entry))))) (now (out .exit)) r × (r ≤ at + 28) ⌝ }
 {
     let k = digits::put_field(out, at, b"shape", b' ');
-    let q = put_byte(out, k, b[0], b' ');
-    let w = put_byte(out, q, b[1], b' ');
-    put_byte(out, w, b[2], b'\n')
+    let q = put_narrow(out, k, b[0], b' ');
+    let w = put_narrow(out, q, b[1], b' ');
+    put_narrow(out, w, b[2], b'\n')
 }
 
 fn put_word(b: &[u8], out: &mut [u8], at: usize) -> usize
@@ -49,7 +49,7 @@ fn put_word(b: &[u8], out: &mut [u8], at: usize) -> usize
     ensures { λ r. ⌜ Wrote (now (out .entry)) at (itemLine (word (wordIn (now (b .entry))))) (now (out .exit)) r × (r ≤ at + 52) ⌝ }
 {
     let address = digits::put_field(out, at, b"word", b' ');
-    let value = put_byte(out, address, b[0], b' ');
+    let value = put_narrow(out, address, b[0], b' ');
     put_wide(out, value, number8(b, 1), b'\n')
 }
 
@@ -59,9 +59,9 @@ fn put_request(b: &[u8], out: &mut [u8], at: usize) -> usize
     ensures { λ r. ⌜ Wrote (now (out .entry)) at (itemLine (request (requestIn (now (b .entry))))) (now (out .exit)) r × (r ≤ at + 92) ⌝ }
 {
     let engine = digits::put_field(out, at, b"request", b' ');
-    let operation = put_byte(out, engine, b[0], b' ');
+    let operation = put_narrow(out, engine, b[0], b' ');
     let address = put_operation(out, operation, b[1]);
-    let first = put_byte(out, address, b[2], b' ');
+    let first = put_narrow(out, address, b[2], b' ');
     let second = put_wide(out, first, number8(b, 3), b' ');
     put_wide(out, second, number8(b, 11), b'\n')
 }
@@ -73,8 +73,8 @@ fn put_event(b: &[u8], out: &mut [u8], at: usize) -> usize
 {
     let what = digits::put_field(out, at, b"event", b' ');
     let level = put_what(out, what, b[0]);
-    let position = put_byte(out, level, b[1], b' ');
-    put_byte(out, position, b[2], b'\n')
+    let position = put_narrow(out, level, b[1], b' ');
+    put_narrow(out, position, b[2], b'\n')
 }
 
 fn put_drain(b: &[u8], out: &mut [u8], at: usize) -> usize

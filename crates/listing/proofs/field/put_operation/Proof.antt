@@ -37,7 +37,7 @@ returns-5 c =
     let r = c .before .before .before .before .match .rest in
     let v = c .before .before .before .before .before .before .args .v in
     let high : 4 ≤ v = omega (arith, r .1, r .0 .1, r .0 .0 .1, r .0 .0 .0 .1) in
-    let written = c .before .before .put-byte .ensures in
+    let written = c .before .before .put-narrow .ensures in
     (rw (operation-unnamed v high) (written .0), omega (arith, written .1))
 
 pub put-operation-spec : {M : Type 1} → statement M

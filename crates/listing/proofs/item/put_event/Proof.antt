@@ -18,8 +18,8 @@ returns c =
     let first = second .before .before .before .before .before in
     let named = first .before .before .before .before .before .put-field .ensures in
     let what = first .put-what .ensures in
-    let level = second .put-byte .ensures in
-    let position = third .put-byte2 .ensures in
+    let level = second .put-narrow .ensures in
+    let position = third .put-narrow2 .ensures in
     (wrote-then named (wrote-then (what .0) (wrote-then (level .0) (position .0))), omega (arith, named .behind, what .1, level .1, position .1))
 
 pub put-event-spec : {M : Type 1} → statement M

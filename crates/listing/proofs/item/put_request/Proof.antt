@@ -22,9 +22,9 @@ put-wide-requires-2 c κs =
       arith,
       named .before .before .before .before .before .pre .1,
       short,
-      first .put-byte .ensures .1,
+      first .put-narrow .ensures .1,
       second .put-operation .ensures .1,
-      third .put-byte2 .ensures .1,
+      third .put-narrow2 .ensures .1,
       fourth .put-wide .ensures .1,
     )
 
@@ -37,9 +37,9 @@ returns c =
     let second = third .before .before .before .before .before in
     let first = second .before .before .before .before .before in
     let named = first .before .before .before .before .before .put-field .ensures in
-    let engine = first .put-byte .ensures in
+    let engine = first .put-narrow .ensures in
     let operation = second .put-operation .ensures in
-    let address = third .put-byte2 .ensures in
+    let address = third .put-narrow2 .ensures in
     let one = fourth .put-wide .ensures in
     let two = fifth .put-wide2 .ensures in
     let numbers = wrote-then (address .0) (wrote-then (one .0) (two .0)) in

@@ -16,9 +16,9 @@ returns c =
     let second = third .before .before .before .before .before in
     let first = second .before .before .before .before .before in
     let named = first .before .before .before .before .before .put-field .ensures in
-    let k = first .put-byte .ensures in
-    let q = second .put-byte2 .ensures in
-    let w = third .put-byte3 .ensures in
+    let k = first .put-narrow .ensures in
+    let q = second .put-narrow2 .ensures in
+    let w = third .put-narrow3 .ensures in
     (wrote-then named (wrote-then (k .0) (wrote-then (q .0) (w .0))), omega (arith, named .behind, k .1, q .1, w .1))
 
 pub put-shape-spec : {M : Type 1} → statement M

@@ -13,7 +13,7 @@ returns : tie.Need-returns
 unfolding partsLine shownFrom partsOf namesAt forms nameIn bytesOf
 returns c =
     let named = c .before .before .before .before .before .before .before .before .before .before .before .before .put-field .ensures in
-    let address = c .before .before .before .before .before .before .before .put-byte .ensures in
+    let address = c .before .before .before .before .before .before .before .put-narrow .ensures in
     let value = c .before .before .put-wide .ensures in
     let line = wrote-then named (wrote-then (address .0) (value .0)) in
     (rw (← (c .before .before .before .number8 .ensures)) line, omega (arith, named .behind, address .1, value .1))
