@@ -1,0 +1,43 @@
+// How the numbers of an item are stored in a row: each in the next cell of its width.
+ghost use mathlib.Core.Path.{_≡_};
+ghost use Prim.Native.Nat.{_+_, _*_, _≤_, _<_};
+ghost use lib.ListN.{length, getD, set};
+ghost use Rattle.writing.specs.Rows.{rows};
+ghost use Rattle.reading.specs.Inner.Row.{threeSet, twoSet, MayPut, RowPut};
+
+// A row has so many numbers of two bytes, of one byte and of eight bytes.
+pub const HEADS: usize = 2;
+
+pub const BYTES: usize = 10;
+
+pub const WORDS: usize = 8;
+
+// The first three numbers, of one byte each.
+fn put_three(values: &[u64; 5], at: usize, bytes: &mut [u8])
+    requires { ⌜ (length (now values) ≡ 5) × (at + 3 ≤ length (now bytes)) ⌝ }
+    requires { ⌜ (getD (now values) 0 0 < 256) × (getD (now values) 1 0 < 256) × (getD (now values) 2 0 < 256) ⌝ }
+    ensures { λ _. ⌜ now (bytes .exit) ≡ threeSet (now (bytes .entry)) at (now (values .entry)) ⌝ }
+{
+    bytes[at] = values[0] as u8;
+    bytes[at + 1] = values[1] as u8;
+    bytes[at + 2] = values[2] as u8;
+}
+
+// The operands of a request.
+fn put_operands(values: &[u64; 5], at: usize, words: &mut [u64])
+    requires { ⌜ (length (now values) ≡ 5) × (at + 2 ≤ length (now words)) ⌝ }
+    ensures { λ _. ⌜ now (words .exit) ≡ twoSet (now (words .entry)) at (now (values .entry)) ⌝ }
+{
+    words[at] = values[3];
+    words[at + 1] = values[4];
+}
+
+// The address and the value of a word.
+fn put_word(values: &[u64; 5], i: usize, bytes: &mut [u8], words: &mut [u64])
+    requires { ⌜ (length (now values) ≡ 5) × (10 * i < length (now bytes)) × (8 * i < length (now words)) × (getD (now values) 0 0 < 256) ⌝ }
+    ensures { λ _. ⌜ now (bytes .exit) ≡ set (now (bytes .entry)) (10 * i) (getD (now (values .entry)) 0 0) ⌝ }
+    ensures { λ _. ⌜ now (words .exit) ≡ set (now (words .entry)) (8 * i) (getD (now (values .entry)) 1 0) ⌝ }
+{
+    bytes[BYTES * i] = values[0] as u8;
+    words[WORDS * i] = values[1];
+}
