@@ -1,18 +1,21 @@
 -- Laws of an item stored in a row: what the row says then, and that the other rows say what they said.
 use Prim.Native.Nat.{ℕ, zero, suc, _+_, _*_, _≤_, _<_, _^_}
-use mathlib.Core.Path.{_≡_, refl, sym, ap, _∙_}
+use mathlib.Core.Path.{_≡_, refl, sym, ap, subst, _∙_}
 use mathlib.Core.Logic.{_≢_}
-use mathlib.Core.List.{List}
+use mathlib.Core.List.{List, [], _∷_}
 use native.Mathlib.Nat.{add-zero, mul-suc, mul-le-mul-left}
+use native.Mathlib.Decide.{ℕ-discrete}
 use native.Mathlib.Omega.{arith}
 use lib.ListN.{length, getD, take, set, length-set}
 use lib.Seq.{getD-set-same, getD-set-other, getD-take}
 use Rattle.lists.specs.Table.{update}
-use Rattle.lists.proofs.Tests.{below-cases}
+use borrow.Author.Tests.{ne-eqb}
+use Rattle.lists.proofs.Tests.{below-cases, by-cases, choose-no, test-clash}
 use Rattle.event.specs.Event.{event, drain}
 use Rattle.trace.specs.Item.{shape, word, request, act}
 use Rattle.trace.specs.Table.{firstRow, kindRow}
 use Rattle.trace.specs.Table as T
+use Rattle.trace.specs.Inner.Fits.{FieldsFit, no-field, field-fits}
 use Rattle.writing.specs.Rows.{Rows, rows, rowCount, kindAt, cell, picked, entryOf, entry, known}
 use Rattle.reading.specs.Inner.Row.{itemOf, threeSet, twoSet, MayPut, SameSizes, RowPut}
 use Rattle.reading.proofs.Rows.{SameNumbers, entry-same}
@@ -177,3 +180,50 @@ module _ (values : List ℕ) (i : ℕ) (h b w : List ℕ) (room : i < rowCount (
       let kind-stays = getD-set-other (set h (2 * i) 5) (2 * i + 1) (2 * i) (getD values 0 0) 0 (omega arith) ∙ kind-is 5 in
       let rounds = getD-set-same (set h (2 * i) 5) (2 * i + 1) (getD values 0 0) 0 (omega (arith, sizes .0, length-set h (2 * i) 5)) in
       rw e (row-put (says-drain _ i values kind-stays rounds) (kept-set 1 _ _ (omega arith) refl (kind-kept 5)) (kept 10 i b) (kept 8 i w))
+
+-- ---- the numbers fit their cells
+field-low : {widths fields : List ℕ} → FieldsFit widths fields → (j : ℕ) → j < length widths → getD fields j 0 < 256 ^ getD widths j 0
+field-low no-field j l = absurd (omega arith)
+field-low (field-fits p rest) zero l = p
+field-low (field-fits p rest) (suc j) l = field-low rest j (omega arith)
+
+module _ {kind : ℕ} {values : List ℕ} {i : ℕ} {r : Rows} (may : MayPut kind values i r) where
+  value-low : (widths : List ℕ) → kindRow kind .widths ≡ widths → (j : ℕ) → j < length widths → getD values j 0 < 256 ^ getD widths j 0
+  value-low widths e j l =
+      let fit : FieldsFit widths (take (length widths) values) = subst (λ (ws : List ℕ). FieldsFit ws (take (length ws) values)) e (may .fit) in
+      rw (getD-take (length widths) values j 0 l) at (field-low fit j l)
+
+  BytesLow : Type 0
+  BytesLow = (getD values 0 0 < 256) × (getD values 1 0 < 256) × (getD values 2 0 < 256)
+
+  three-low : (rest : List ℕ) → kindRow kind .widths ≡ 1 ∷ 1 ∷ 1 ∷ rest → BytesLow
+  unfolding BytesLow
+  three-low rest e = let low = value-low (1 ∷ 1 ∷ 1 ∷ rest) e in (low 0 (omega arith), low 1 (omega arith), low 2 (omega arith))
+
+  pub shape-low : kind ≡ 1 → (getD values 0 0 < 256) × (getD values 1 0 < 256) × (getD values 2 0 < 256)
+  unfolding BytesLow kindRow firstRow T.rows
+  shape-low e = three-low [] (ap (λ (k : ℕ). kindRow k .widths) e)
+
+  pub request-low : kind ≡ 3 → (getD values 0 0 < 256) × (getD values 1 0 < 256) × (getD values 2 0 < 256)
+  unfolding BytesLow kindRow firstRow T.rows
+  request-low e = three-low (8 ∷ 8 ∷ []) (ap (λ (k : ℕ). kindRow k .widths) e)
+
+  pub event-low : kind ≡ 4 → (getD values 0 0 < 256) × (getD values 1 0 < 256) × (getD values 2 0 < 256)
+  unfolding BytesLow kindRow firstRow T.rows
+  event-low e = three-low [] (ap (λ (k : ℕ). kindRow k .widths) e)
+
+  pub word-low : kind ≡ 2 → getD values 0 0 < 256
+  unfolding kindRow firstRow T.rows
+  word-low e = value-low (1 ∷ 8 ∷ []) (ap (λ (k : ℕ). kindRow k .widths) e) 0 (omega arith)
+
+  pub drain-low : kind ≡ 5 → getD values 0 0 < 65536
+  unfolding kindRow firstRow T.rows
+  drain-low e = value-low (2 ∷ []) (ap (λ (k : ℕ). kindRow k .widths) e) 0 (omega arith)
+
+  -- the table has no other kind
+  pub is-drain : kind ≢ 1 → kind ≢ 2 → kind ≢ 3 → kind ≢ 4 → kind ≡ 5
+  unfolding kindRow firstRow T.rows
+  is-drain n1 n2 n3 n4 = by-cases (ℕ-discrete kind 5) (λ (e : kind ≡ 5). e) (λ (n5 : kind ≢ 5).
+      let none : kindRow kind ≡ T.noRow = choose-no _ _ (ne-eqb kind 1 n1) ∙ choose-no _ _ (ne-eqb kind 2 n2) ∙ choose-no _ _ (ne-eqb kind 3 n3)
+          ∙ choose-no _ _ (ne-eqb kind 4 n4) ∙ choose-no _ _ (ne-eqb kind 5 n5) in
+      test-clash (sym (ap (λ (x : T.Row). T.isRow x) none) ∙ may .is-row) refl)

@@ -41,3 +41,31 @@ fn put_word(values: &[u64; 5], i: usize, bytes: &mut [u8], words: &mut [u64])
     bytes[BYTES * i] = values[0] as u8;
     words[WORDS * i] = values[1];
 }
+
+// An item of a kind, whose fields have these numbers, stored in row i.
+pub fn put_row(
+    kind: u16,
+    values: &[u64; 5],
+    i: usize,
+    heads: &mut [u16],
+    bytes: &mut [u8],
+    words: &mut [u64],
+)
+    requires { ⌜ MayPut kind (now values) i (rows (now heads) (now bytes) (now words)) ⌝ }
+    ensures { λ _. ⌜ RowPut kind (now (values .entry)) i (rows (now (heads .entry)) (now (bytes .entry)) (now (words .entry)))
+        (rows (now (heads .exit)) (now (bytes .exit)) (now (words .exit))) ⌝ }
+{
+    heads[HEADS * i] = kind;
+    match kind {
+        1 => put_three(values, BYTES * i, bytes),
+        2 => put_word(values, i, bytes, words),
+        3 => {
+            put_three(values, BYTES * i, bytes);
+            put_operands(values, WORDS * i, words);
+        }
+        4 => put_three(values, BYTES * i, bytes),
+        _ => {
+            heads[HEADS * i + 1] = values[0] as u16;
+        }
+    }
+}
