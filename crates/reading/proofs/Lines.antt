@@ -1,31 +1,17 @@
 -- Laws of lines: where one ends, and the lines behind it.
-use Prim.Native.Nat.{ℕ, zero, suc, _+_, _≤_, _<_}
+use Prim.Native.Nat.{ℕ, zero, suc, _≤_, _<_}
 use mathlib.Core.Path.{_≡_, refl, sym, ap, _∙_}
-use mathlib.Core.Bool.{Bool, true, false, not}
+use mathlib.Core.Bool.{true, false, not}
 use mathlib.Core.Logic.{_≢_}
 use mathlib.Core.List.{List, [], _∷_}
 use native.Mathlib.Omega.{arith}
-use lib.ListN.{length, getD, take, drop, length-drop, drop-of-length-le}
-use lib.Seq.{drop-cons}
+use lib.ListN.{length, take, drop, length-drop}
 use borrow.Author.Tests.{eq-eqb, ne-eqb}
 use Rattle.lists.proofs.Tests.{choose-yes, choose-no, below-cases}
 use Rattle.lines.specs.Said.{leading}
 use Rattle.reading.specs.Text.{inLine, linesUpTo, linesOf}
 
--- ---- how many stand in front
-pub leading-go : (test : ℕ → Bool) (s : List ℕ) (i : ℕ) → i < length s → test (getD s i 0) ≡ true →
-    leading test (drop i s) ≡ suc (leading test (drop (suc i) s))
-unfolding leading
-leading-go test s i l e = ap (leading test) (drop-cons s i 0 l) ∙ choose-yes _ _ e
-
-pub leading-stop : (test : ℕ → Bool) (s : List ℕ) (i : ℕ) → i < length s → test (getD s i 0) ≡ false → leading test (drop i s) ≡ 0
-unfolding leading
-leading-stop test s i l e = ap (leading test) (drop-cons s i 0 l) ∙ choose-no _ _ e
-
-pub leading-ended : (test : ℕ → Bool) (s : List ℕ) (i : ℕ) → length s ≤ i → leading test (drop i s) ≡ 0
-unfolding leading
-leading-ended test s i l = ap (leading test) (drop-of-length-le s {i = i} l)
-
+-- ---- newlines
 pub in-line : (c : ℕ) → c ≢ 10 → inLine c ≡ true
 in-line c n = ap not (ne-eqb c 10 n)
 

@@ -17,8 +17,8 @@ use Rattle.trace.specs.Table.{firstRow, kindRow}
 use Rattle.trace.specs.Table as T
 use Rattle.trace.specs.Inner.Fits.{FieldsFit, no-field, field-fits}
 use Rattle.writing.specs.Rows.{Rows, rows, rowCount, kindAt, cell, picked, entryOf, entry, known}
-use Rattle.reading.specs.Inner.Row.{itemOf, threeSet, twoSet, MayPut, SameSizes, RowPut}
-use Rattle.reading.proofs.Rows.{SameNumbers, entry-same}
+use Rattle.reading.specs.Inner.Row.{itemOf, threeSet, twoSet, MayKeep, RowPut}
+use Rattle.reading.proofs.Rows.{entry-same}
 
 -- ---- a store in one row
 apart : (size i j k k′ : ℕ) → j ≢ i → k < size → k′ < size → size * j + k ≢ size * i + k′
@@ -67,16 +67,18 @@ module _ (l : List ℕ) (at : ℕ) (values : List ℕ) where
       let one = set l at (getD values 0 0) in
       let two = set one (at + 1) (getD values 1 0) in
       let size-one = length-set l at (getD values 0 0) in
-      let size-two = length-set one (at + 1) (getD values 1 0) in
-      (getD-set-other two (at + 2) at _ 0 (omega arith) ∙ getD-set-other one (at + 1) at _ 0 (omega arith) ∙ getD-set-same l at _ 0 (omega arith),
+      let size-two = length-set one (at + 1) (getD values 1 0) in (
+        getD-set-other two (at + 2) at _ 0 (omega arith) ∙ getD-set-other one (at + 1) at _ 0 (omega arith) ∙ getD-set-same l at _ 0 (omega arith),
         getD-set-other two (at + 2) (at + 1) _ 0 (omega arith) ∙ getD-set-same one (at + 1) _ 0 (omega (arith, size-one)),
-        getD-set-same two (at + 2) _ 0 (omega (arith, size-one, size-two)))
+        getD-set-same two (at + 2) _ 0 (omega (arith, size-one, size-two)),
+      )
 
   two-are : at + 2 ≤ length l → (getD (twoSet l at values) at 0 ≡ getD values 3 0) × (getD (twoSet l at values) (at + 1) 0 ≡ getD values 4 0)
   two-are room =
-      let one = set l at (getD values 3 0) in
-      (getD-set-other one (at + 1) at _ 0 (omega arith) ∙ getD-set-same l at _ 0 (omega arith),
-        getD-set-same one (at + 1) _ 0 (omega (arith, length-set l at (getD values 3 0))))
+      let one = set l at (getD values 3 0) in (
+        getD-set-other one (at + 1) at _ 0 (omega arith) ∙ getD-set-same l at _ 0 (omega arith),
+        getD-set-same one (at + 1) _ 0 (omega (arith, length-set l at (getD values 3 0))),
+      )
 
 -- ---- the room of a row
 pub row-room : (r : Rows) (i : ℕ) → i < rowCount r → (2 * i + 2 ≤ length (r .heads)) × (10 * i + 10 ≤ length (r .bytes)) × (8 * i + 8 ≤ length (r .words))
@@ -187,7 +189,7 @@ field-low no-field j l = absurd (omega arith)
 field-low (field-fits p rest) zero l = p
 field-low (field-fits p rest) (suc j) l = field-low rest j (omega arith)
 
-module _ {kind : ℕ} {values : List ℕ} {i : ℕ} {r : Rows} (may : MayPut kind values i r) where
+module _ {kind : ℕ} {values : List ℕ} (may : MayKeep kind values) where
   value-low : (widths : List ℕ) → kindRow kind .widths ≡ widths → (j : ℕ) → j < length widths → getD values j 0 < 256 ^ getD widths j 0
   value-low widths e j l =
       let fit : FieldsFit widths (take (length widths) values) = subst (λ (ws : List ℕ). FieldsFit ws (take (length ws) values)) e (may .fit) in
@@ -225,5 +227,5 @@ module _ {kind : ℕ} {values : List ℕ} {i : ℕ} {r : Rows} (may : MayPut kin
   unfolding kindRow firstRow T.rows
   is-drain n1 n2 n3 n4 = by-cases (ℕ-discrete kind 5) (λ (e : kind ≡ 5). e) (λ (n5 : kind ≢ 5).
       let none : kindRow kind ≡ T.noRow = choose-no _ _ (ne-eqb kind 1 n1) ∙ choose-no _ _ (ne-eqb kind 2 n2) ∙ choose-no _ _ (ne-eqb kind 3 n3)
-          ∙ choose-no _ _ (ne-eqb kind 4 n4) ∙ choose-no _ _ (ne-eqb kind 5 n5) in
+      ∙ choose-no _ _ (ne-eqb kind 4 n4) ∙ choose-no _ _ (ne-eqb kind 5 n5) in
       test-clash (sym (ap (λ (x : T.Row). T.isRow x) none) ∙ may .is-row) refl)

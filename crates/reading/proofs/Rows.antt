@@ -1,22 +1,20 @@
 -- Laws of rows: what a row says depends on its own numbers only, and a store in one row leaves the others.
-use Prim.Native.Nat.{ℕ, zero, suc, _+_, _*_, _≤_, _<_, _^_}
-use mathlib.Core.Path.{_≡_, refl, sym, ap, _∙_}
-use mathlib.Core.Logic.{_≢_}
-use mathlib.Core.Bool.{Bool, true}
-use mathlib.Core.List.{List, [], _∷_}
+use Prim.Native.Nat.{ℕ, _+_, _*_, _<_}
+use mathlib.Core.Path.{_≡_, refl, ap, _∙_}
+use mathlib.Core.Bool.{Bool}
+use mathlib.Core.List.{List}
 use native.Mathlib.Nat.{add-zero}
 use native.Mathlib.Omega.{arith}
 use lib.Dec.{eqb}
-use lib.ListN.{length, getD, take, set, length-set}
-use lib.Seq.{getD-set-same, getD-set-other, getD-take}
+use lib.ListN.{getD}
 use Rattle.lists.specs.Search.{All, nil, cons}
 use Rattle.lists.specs.Table.{update}
-use Rattle.lists.proofs.Tests.{either, below-cases}
+use Rattle.lists.proofs.Tests.{either}
 use Rattle.event.specs.Event.{event, drain}
 use Rattle.trace.specs.Item.{shape, word, request, act}
-use Rattle.trace.specs.Table.{Row, noRow, firstRow, kindRow, isRow}
+use Rattle.trace.specs.Table.{Row, noRow, firstRow, kindRow}
 use Rattle.trace.specs.Table as T
-use Rattle.writing.specs.Rows.{Rows, rows, rowCount, kindAt, cell, picked, entryOf, entry, known}
+use Rattle.writing.specs.Rows.{Rows, rows, kindAt, cell, picked, entryOf, entry, known}
 
 -- ---- a row's own numbers
 -- what holds of each row of the table, and where there is none, holds of the row that is found
@@ -40,7 +38,7 @@ cells-same r r′ i i′ same =
     let w0 = same .words-are 0 (omega arith) in
     let w1 = same .words-are 1 (omega arith) in
     let h1 : getD (r .heads) (2 * i + 1 + 0) 0 ≡ getD (r′ .heads) (2 * i′ + 1 + 0) 0 =
-        rw (add-zero (2 * i + 1), add-zero (2 * i′ + 1)) (same .heads-are 1 (omega arith)) in
+    rw (add-zero (2 * i + 1), add-zero (2 * i′ + 1)) (same .heads-are 1 (omega arith)) in
     cons (λ t. known (shape (record { k = b0 t; q = b1 t; w = b2 t })))
     (cons (λ t. known (word (record { address = b0 t; value = w0 t })))
     (cons (λ t. known (request (record { engine = b0 t; operation = b1 t; address = b2 t; first = w0 t; second = w1 t })))

@@ -3,7 +3,9 @@ ghost use mathlib.Core.Path.{_≡_};
 ghost use Prim.Native.Nat.{_+_, _*_, _≤_, _<_};
 ghost use lib.ListN.{length, getD, set};
 ghost use Rattle.writing.specs.Rows.{rows};
-ghost use Rattle.reading.specs.Inner.Row.{threeSet, twoSet, MayPut, RowPut};
+ghost use Rattle.reading.specs.Inner.Row.{threeSet, twoSet, MayKeep, MayPut, RowPut};
+ghost use Rattle.reading.specs.Inner.Walk.{Kept};
+use lines::Values;
 
 // A row has so many numbers of two bytes, of one byte and of eight bytes.
 pub const HEADS: usize = 2;
@@ -13,7 +15,7 @@ pub const BYTES: usize = 10;
 pub const WORDS: usize = 8;
 
 // The first three numbers, of one byte each.
-fn put_three(values: &[u64; 5], at: usize, bytes: &mut [u8])
+fn put_three(values: &Values, at: usize, bytes: &mut [u8])
     requires { ⌜ (length (now values) ≡ 5) × (at + 3 ≤ length (now bytes)) ⌝ }
     requires { ⌜ (getD (now values) 0 0 < 256) × (getD (now values) 1 0 < 256) × (getD (now values) 2 0 < 256) ⌝ }
     ensures { λ _. ⌜ now (bytes .exit) ≡ threeSet (now (bytes .entry)) at (now (values .entry)) ⌝ }
@@ -24,7 +26,7 @@ fn put_three(values: &[u64; 5], at: usize, bytes: &mut [u8])
 }
 
 // The operands of a request.
-fn put_operands(values: &[u64; 5], at: usize, words: &mut [u64])
+fn put_operands(values: &Values, at: usize, words: &mut [u64])
     requires { ⌜ (length (now values) ≡ 5) × (at + 2 ≤ length (now words)) ⌝ }
     ensures { λ _. ⌜ now (words .exit) ≡ twoSet (now (words .entry)) at (now (values .entry)) ⌝ }
 {
@@ -33,7 +35,7 @@ fn put_operands(values: &[u64; 5], at: usize, words: &mut [u64])
 }
 
 // The address and the value of a word.
-fn put_word(values: &[u64; 5], i: usize, bytes: &mut [u8], words: &mut [u64])
+fn put_word(values: &Values, i: usize, bytes: &mut [u8], words: &mut [u64])
     requires { ⌜ (length (now values) ≡ 5) × (10 * i < length (now bytes)) × (8 * i < length (now words)) × (getD (now values) 0 0 < 256) ⌝ }
     ensures { λ _. ⌜ now (bytes .exit) ≡ set (now (bytes .entry)) (10 * i) (getD (now (values .entry)) 0 0) ⌝ }
     ensures { λ _. ⌜ now (words .exit) ≡ set (now (words .entry)) (8 * i) (getD (now (values .entry)) 1 0) ⌝ }
@@ -45,7 +47,7 @@ fn put_word(values: &[u64; 5], i: usize, bytes: &mut [u8], words: &mut [u64])
 // An item of a kind, whose fields have these numbers, stored in row i.
 pub fn put_row(
     kind: u16,
-    values: &[u64; 5],
+    values: &Values,
     i: usize,
     heads: &mut [u16],
     bytes: &mut [u8],
@@ -68,4 +70,30 @@ pub fn put_row(
             heads[HEADS * i + 1] = values[0] as u16;
         }
     }
+}
+
+// An item goes into the next row, where there is one: how many rows are filled then.
+pub fn keep(
+    kind: u16,
+    values: &Values,
+    n: usize,
+    heads: &mut [u16],
+    bytes: &mut [u8],
+    words: &mut [u64],
+) -> usize
+    requires { ⌜ MayKeep kind (now values) ⌝ }
+    ensures { λ r. ⌜ Kept kind (now (values .entry)) n (rows (now (heads .entry)) (now (bytes .entry)) (now (words .entry)))
+        r (rows (now (heads .exit)) (now (bytes .exit)) (now (words .exit))) ⌝ }
+{
+    if n >= heads.len() / HEADS {
+        return n;
+    }
+    if n >= bytes.len() / BYTES {
+        return n;
+    }
+    if n >= words.len() / WORDS {
+        return n;
+    }
+    put_row(kind, values, n, heads, bytes, words);
+    n + 1
 }

@@ -1,5 +1,5 @@
 -- What the storing of an item in a row asks and promises.
-use Prim.Native.Nat.{ℕ, _+_, _*_, _<_}
+use Prim.Native.Nat.{ℕ, _+_, _<_}
 use mathlib.Core.Path.{_≡_}
 use mathlib.Core.Logic.{_≢_}
 use mathlib.Core.Bool.{true}
@@ -25,11 +25,15 @@ abbrev pub twoSet : List ℕ → ℕ → List ℕ → List ℕ
 twoSet l at values = set (set l at (getD values 3 0)) (at + 1) (getD values 4 0)
 
 -- ---- the row
-pub record MayPut (kind : ℕ) (values : List ℕ) (i : ℕ) (r : Rows) : Type 0 where
-  pub inside : i < rowCount r
+-- a kind that the table has, and numbers that fit its fields
+pub record MayKeep (kind : ℕ) (values : List ℕ) : Type 0 where
   pub is-row : isRow (kindRow kind) ≡ true
   pub fit : FieldsFit (kindRow kind .widths) (fieldsOf kind values)
   pub five : length values ≡ 5
+
+pub record MayPut (kind : ℕ) (values : List ℕ) (i : ℕ) (r : Rows) : Type 0 where
+  pub inside : i < rowCount r
+  pub may : MayKeep kind values
 
 -- as many numbers in each slice as before
 pub record SameSizes (r r′ : Rows) : Type 0 where

@@ -8,7 +8,8 @@ use lib.ListN.{length, drop}
 use borrow.Author.Needs.{needs}
 use Rattle.lines.specs.Said.{leading}
 use Rattle.reading.specs.Text.{inLine}
-use Rattle.reading.proofs.Lines.{leading-go, leading-stop, leading-ended, in-line, no-line}
+use Rattle.lines.proofs.Spans.{leading-step, leading-stop, leading-end}
+use Rattle.reading.proofs.Lines.{in-line, no-line}
 use Rattle.reading.proofs.line.line_end.Statement.{statement}
 use Rattle.reading.proofs.line.line_end.Tie as tie
 
@@ -36,12 +37,12 @@ loop-less c = omega arith
 
 loop-again : tie.Need-loop-again Inv-loop μ-loop
 loop-again c = let inv = c .before .before .before .loop .inv in let text = now (c .before .before .before .before .args .text) in
-    let on = leading-go inLine text (c .before .before .before .loop .end) (c .before .before .loop-test .taken) (in-line _ (c .if1 .left)) in
+    let on = leading-step inLine text (c .before .before .before .loop .end) (c .before .before .loop-test .taken) (in-line _ (c .if1 .left)) in
     (omega arith, omega arith, rw add-one (omega (arith, inv .2, on)))
 
 returns-2 : tie.Need-returns-2 Inv-loop μ-loop
 returns-2 c = let inv = c .before .loop .inv in let text = now (c .before .before .args .text) in
-    (omega (arith, inv .2, leading-ended inLine text (c .before .loop .end) (c .loop-test .left)), inv .1)
+    (omega (arith, inv .2, leading-end inLine text (c .before .loop .end) (c .loop-test .left)), inv .1)
 
 pub line-end-spec : {M : Type 1} → statement M
 line-end-spec = tie.close (tie.spec Inv-loop μ-loop loop-holds shared-slice-read-if1 returns add-end loop-less loop-again returns-2)

@@ -22,33 +22,37 @@ mul-put-three : tie.Need-mul-put-three
 mul-put-three c = omega (arith, row-room _ _ (c .before .before .before .before .pre .inside) .1)
 
 put-three-requires : tie.Need-put-three-requires
-put-three-requires c κs = let s = c .before .before .before .before .before in ((s .pre .five, omega (arith, row-room _ _ (s .pre .inside) .1)), shape-low (s .pre) (c .before .match .keys1))
+put-three-requires c κs = let s = c .before .before .before .before .before in
+    ((s .pre .may .five, omega (arith, row-room _ _ (s .pre .inside) .1)), shape-low (s .pre .may) (c .before .match .keys1))
 
 put-word-requires : tie.Need-put-word-requires
 put-word-requires c κs = let s = c .before .before .before .before .before .before in let room = row-room _ _ (s .pre .inside) in
-    (s .pre .five, omega (arith, room .1), omega (arith, room .2), word-low (s .pre) (c .before .before .match .keys2))
+    (s .pre .may .five, omega (arith, room .1), omega (arith, room .2), word-low (s .pre .may) (c .before .before .match .keys2))
 
 mul-put-three-2 : tie.Need-mul-put-three-2
 mul-put-three-2 c = omega (arith, row-room _ _ (c .before .before .before .before .pre .inside) .1)
 
 put-three-requires-2 : tie.Need-put-three-requires-2
-put-three-requires-2 c κs = let s = c .before .before .before .before .before in ((s .pre .five, omega (arith, row-room _ _ (s .pre .inside) .1)), request-low (s .pre) (c .before .match .keys3))
+put-three-requires-2 c κs = let s = c .before .before .before .before .before in
+    ((s .pre .may .five, omega (arith, row-room _ _ (s .pre .inside) .1)), request-low (s .pre .may) (c .before .match .keys3))
 
 mul-put-operands : tie.Need-mul-put-operands
 mul-put-operands c = omega (arith, row-room _ _ (c .before .before .before .before .before .before .before .before .pre .inside) .2)
 
 put-operands-requires : tie.Need-put-operands-requires
-put-operands-requires c κs = let s = c .before .before .before .before .before .before .before .before .before in (s .pre .five, omega (arith, row-room _ _ (s .pre .inside) .2))
+put-operands-requires c κs = let s = c .before .before .before .before .before .before .before .before .before in
+    (s .pre .may .five, omega (arith, row-room _ _ (s .pre .inside) .2))
 
 mul-put-three-3 : tie.Need-mul-put-three-3
 mul-put-three-3 c = omega (arith, row-room _ _ (c .before .before .before .before .pre .inside) .1)
 
 put-three-requires-3 : tie.Need-put-three-requires-3
-put-three-requires-3 c κs = let s = c .before .before .before .before .before in ((s .pre .five, omega (arith, row-room _ _ (s .pre .inside) .1)), event-low (s .pre) (c .before .match .keys4))
+put-three-requires-3 c κs = let s = c .before .before .before .before .before in
+    ((s .pre .may .five, omega (arith, row-room _ _ (s .pre .inside) .1)), event-low (s .pre .may) (c .before .match .keys4))
 
 cast-heads : tie.Need-cast-heads
 cast-heads c = let s = c .before .before .before .before .before in let rest = c .before .match .rest in
-    omega (arith, drain-low (s .pre) (is-drain (s .pre) (rest .0 .0 .0 .1) (rest .0 .0 .1) (rest .0 .1) (rest .1)))
+    omega (arith, drain-low (s .pre .may) (is-drain (s .pre .may) (rest .0 .0 .0 .1) (rest .0 .0 .1) (rest .0 .1) (rest .1)))
 
 mul-heads-3 : tie.Need-mul-heads-3
 mul-heads-3 c = omega (arith, row-room _ _ (c .before .before .before .before .before .pre .inside) .0)
@@ -60,23 +64,29 @@ mul-heads-4 : tie.Need-mul-heads-4
 mul-heads-4 c = omega (arith, row-room _ _ (c .before .before .before .before .before .pre .inside) .0)
 
 slice-write-heads-2 : tie.Need-slice-write-heads-2
-slice-write-heads-2 c = let s = c .before .before .before .before .before in omega (arith, row-room _ _ (s .pre .inside) .0, length-set (now (s .args .heads)) (2 * s .args .i) (s .args .kind))
+slice-write-heads-2 c = let s = c .before .before .before .before .before in
+    omega (arith, row-room _ _ (s .pre .inside) .0, length-set (now (s .args .heads)) (2 * s .args .i) (s .args .kind))
 
 returns : tie.Need-returns
-returns c = let s = c .before .before .before .before .before .before .before .before in rw (c .before .before .put-three .ensures) (put-shape _ _ _ _ _ (s .pre .inside) _ (c .before .before .before .before .match .keys1))
+returns c = let d = c .before .before .before .before in
+    rw (c .before .before .put-three .ensures) (put-shape _ _ _ _ _ (d .before .before .before .before .pre .inside) _ (d .match .keys1))
 
 returns-2 : tie.Need-returns-2
-returns-2 c = let s = c .before .before .before .before .before .before .before .before .before .before .before in rw (c .before .before .before .before .put-word .ensures .0, c .before .before .before .before .put-word .ensures .1) (put-word _ _ _ _ _ (s .pre .inside) _ (c .before .before .before .before .before .before .before .match .keys2))
+returns-2 c = let d = c .before .before .before .before .before .before .before in let put = c .before .before .before .before .put-word .ensures in
+    rw (put .0, put .1) (put-word _ _ _ _ _ (d .before .before .before .before .pre .inside) _ (d .match .keys2))
 
 returns-3 : tie.Need-returns-3
-returns-3 c = let s = c .before .before .before .before .before .before .before .before .before .before .before .before in rw (c .before .before .before .before .before .before .put-three2 .ensures, c .before .before .put-operands .ensures) (put-request _ _ _ _ _ (s .pre .inside) _ (c .before .before .before .before .before .before .before .before .match .keys3))
+returns-3 c = let d = c .before .before .before .before .before .before .before .before in
+    rw (c .before .before .before .before .before .before .put-three2 .ensures, c .before .before .put-operands .ensures)
+    (put-request _ _ _ _ _ (d .before .before .before .before .pre .inside) _ (d .match .keys3))
 
 returns-4 : tie.Need-returns-4
-returns-4 c = let s = c .before .before .before .before .before .before .before .before in rw (c .before .before .put-three3 .ensures) (put-event _ _ _ _ _ (s .pre .inside) _ (c .before .before .before .before .match .keys4))
+returns-4 c = let d = c .before .before .before .before in
+    rw (c .before .before .put-three3 .ensures) (put-event _ _ _ _ _ (d .before .before .before .before .pre .inside) _ (d .match .keys4))
 
 returns-5 : tie.Need-returns-5
-returns-5 c = let s = c .before .before .before .before .before in let rest = c .before .match .rest in put-drain _ _ _ _ _ (s .pre .inside) _
-    (is-drain (s .pre) (rest .0 .0 .0 .1) (rest .0 .0 .1) (rest .0 .1) (rest .1))
+returns-5 c = let s = c .before .before .before .before .before in let rest = c .before .match .rest in
+    put-drain _ _ _ _ _ (s .pre .inside) _ (is-drain (s .pre .may) (rest .0 .0 .0 .1) (rest .0 .0 .1) (rest .0 .1) (rest .1))
 
 pub put-row-spec : {M : Type 1} → statement M
 put-row-spec =
