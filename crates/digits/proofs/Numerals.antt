@@ -14,7 +14,7 @@ use Rattle.lists.proofs.Every.{all-append}
 use Rattle.digits.specs.Numeral.{digit, numeralIn, numeral, decimal, valueFrom, valueIn}
 use Rattle.digits.specs.Inner.Value.{binary}
 
-valueFrom-append : (base n : ℕ) (ds es : List ℕ) → valueFrom base n (ds ++ es) ≡ valueFrom base (valueFrom base n ds) es
+pub valueFrom-append : (base n : ℕ) (ds es : List ℕ) → valueFrom base n (ds ++ es) ≡ valueFrom base (valueFrom base n ds) es
 unfolding valueFrom
 valueFrom-append base n [] es = refl
 valueFrom-append base n (d ∷ ds) es = valueFrom-append base _ ds es

@@ -1,0 +1,2 @@
+-- Laws of the fields of a record, read one after another.
+use Prim.Native.Nat.{ℕ, suc}

@@ -1,0 +1,2 @@
+-- Laws of a line as a whole.
+use Prim.Native.Nat.{ℕ, suc}
