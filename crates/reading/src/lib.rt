@@ -11,8 +11,8 @@ use lines::Said;
 use lines::line_says;
 use row::keep;
 
-mod line;
-mod row;
+pub mod line;
+pub mod row;
 
 // What came of a text: how many rows say items; or the first line that is no item, counted from 1, why, and the field.
 pub enum Answer {
