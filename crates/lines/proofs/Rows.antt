@@ -1,6 +1,6 @@
 -- Laws of the kinds of records: a kind of the table is one of five, and a name's row is the row of its kind.
 use Prim.Native.Nat.{ℕ, _≤_, _<_, _^_}
-use mathlib.Core.Path.{_≡_, refl, subst, sym, _∙_}
+use mathlib.Core.Path.{_≡_, refl, subst, sym}
 use mathlib.Core.Logic.{_≢_}
 use mathlib.Core.Bool.{Bool, true, false, not}
 use mathlib.Core.List.{List, [], _∷_}
@@ -8,7 +8,7 @@ use native.Mathlib.Decide.{ℕ-discrete}
 use native.Mathlib.Omega.{arith}
 use lib.ListN.{length, getD}
 use lib.Dec.{eqb, ltb}
-use borrow.Author.Tests.{eq-eqb, ne-eqb}
+use borrow.Author.Tests.{ne-eqb}
 use Rattle.lists.specs.Choice.{choose, both}
 use Rattle.lists.specs.Search.{All, nil, cons}
 use Rattle.lists.proofs.Tests.{by-cases, clash, test-clash, either}
@@ -109,7 +109,8 @@ pub byte-width : (kind place : ℕ) → isRow (kindRow kind) ≡ true → kind �
     256 ≡ 256 ^ widthAt kind place
 unfolding kindRow firstRow rows
 byte-width kind place h = by-kind (λ kind. kind ≢ 2 → kind ≢ 3 → kind ≢ 5 → place < length (kindRow kind .widths) → 256 ≡ 256 ^ widthAt kind place)
-    (λ a b c. three-bytes 1 place refl) (λ a b c. absurd (a refl)) (λ a b c. absurd (b refl)) (λ a b c. three-bytes 4 place refl) (λ a b c. absurd (c refl)) kind h
+    (λ a b c. three-bytes 1 place refl) (λ a b c. absurd (a refl)) (λ a b c. absurd (b refl)) (λ a b c. three-bytes 4 place refl)
+    (λ a b c. absurd (c refl)) kind h
 
 -- a field has a byte at least
 pub some-width : (kind place : ℕ) → isRow (kindRow kind) ≡ true → place < length (kindRow kind .widths) → 256 ≤ 256 ^ widthAt kind place

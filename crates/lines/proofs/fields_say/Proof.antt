@@ -1,110 +1,112 @@
+-- `fields_say` meets its contract: field after field, as far as each is there and has a number.
+use Prim.Native.Nat.{_-_, _<_, _≤_}
+use mathlib.Core.Path.{_≡_, refl, sym, _∙_}
+use native.Mathlib.Numerals.{add-one}
+use native.Mathlib.Omega.{arith}
+use lib.ListN.{length}
 use borrow.Author.Needs.{needs}
+use Rattle.trace.specs.Table.{kindRow}
+use Rattle.lines.specs.Inner.Read.{FieldsRead}
+use Rattle.lines.proofs.Spans.{fields-end, fields-next}
+use Rattle.lines.proofs.Rows.{few-fields}
+use Rattle.lines.proofs.Fields.{fields-start, fields-missing, fields-bad, fields-more, fields-extra, fields-all}
 use Rattle.lines.proofs.fields_say.Statement.{statement}
 use Rattle.lines.proofs.fields_say.Tie as tie
-use Rattle.lines.proofs.fields_say.Reads as reads
-use Rattle.lines.proofs.fields_say.Lts as lts
-use Rattle.lines.proofs.bounds.past_field.Reads as past-field-reads
-use Rattle.lines.proofs.bounds.past_spaces.Reads as past-spaces-reads
-use Rattle.lines.proofs.field.field_count.Reads as field-count-reads
-use Rattle.lines.proofs.field.field_told.Reads as field-told-reads
 
 abbrev Inv-loop : tie.InvT-loop
-Inv-loop line start kind values₀ count at₀ place₀ values at place = ?
+Inv-loop line start kind values₀ count at₀ place₀ values at place = FieldsRead line start kind values place at
 
 abbrev μ-loop : tie.MeasureT-loop
-μ-loop line start kind values₀ count at₀ place₀ values at place = ?
+μ-loop line start kind values₀ count at₀ place₀ values at place = count - place
 
--- src/lib.rt:72:9
 field-count-requires : tie.Need-field-count-requires Inv-loop μ-loop
-field-count-requires c κs = search needs
+field-count-requires c κs = c .before .pre .2
 
--- src/lib.rt:74:5
 loop-holds : tie.Need-loop-holds Inv-loop μ-loop
-loop-holds c = search needs
+loop-holds c = let s = c .before .before in fields-start _ _ _ _ (s .pre .0) (s .pre .1)
 
--- src/lib.rt:75:13
 past-spaces-requires : tie.Need-past-spaces-requires Inv-loop μ-loop
-past-spaces-requires c κs = search needs
+past-spaces-requires c κs = c .before .loop .inv .inside
 
--- src/lib.rt:77:49
 add-t16 : tie.Need-add-t16 Inv-loop μ-loop
-add-t16 c = search needs
+add-t16 c = let d = c .before .before .before in
+    omega (arith, c .before .before .loop-test .taken, d .before .field-count .ensures, few-fields _ (d .before .before .before .pre .2))
 
--- src/lib.rt:77:13
 returns : tie.Need-returns Inv-loop μ-loop
-returns c = search needs
+returns c = let d = c .before .before .before in
+    let under : d .loop .place < length (kindRow (d .before .before .before .args .kind) .widths) =
+    omega (arith, c .before .before .loop-test .taken, d .before .field-count .ensures) in
+    rw add-one (fields-missing _ _ _ (d .loop .inv) under (fields-end _ _ _ (c .before .past-spaces .ensures .0) (omega (arith, c .if1 .taken))))
 
--- src/lib.rt:79:13
 past-field-requires : tie.Need-past-field-requires Inv-loop μ-loop
-past-field-requires c κs = search needs
+past-field-requires c κs = c .before .past-spaces .ensures .1
 
--- src/lib.rt:80:51
 sub-field-told : tie.Need-sub-field-told Inv-loop μ-loop
-sub-field-told c = search needs
+sub-field-told c = omega (arith, c .past-field .ensures .0)
 
--- src/lib.rt:80:51
 part-field-told-start : tie.Need-part-field-told-start Inv-loop μ-loop
-part-field-told-start c = search needs
+part-field-told-start c = omega (arith, c .past-field .ensures .0)
 
--- src/lib.rt:80:51
 part-field-told-end : tie.Need-part-field-told-end Inv-loop μ-loop
-part-field-told-end c = search needs
+part-field-told-end c = omega (arith, c .past-field .ensures .0, c .past-field .ensures .1)
 
--- src/lib.rt:80:13
-field-told-requires : tie.Need-field-told-requires Inv-loop μ-loop
-field-told-requires c κs = search needs
-
--- src/lib.rt:82:23
-enum-known-told : tie.Need-enum-known-told Inv-loop μ-loop
-enum-known-told c = search needs
-
--- src/lib.rt:83:44
-add-t20 : tie.Need-add-t20 Inv-loop μ-loop
-add-t20 c = search needs
-
--- src/lib.rt:83:17
 returns-2 : tie.Need-returns-2 Inv-loop μ-loop
-returns-2 c = search needs
+returns-2 c = let l = c .before .before .before .before .before .before .before .before .before in
+    let under : l .loop .place < length (kindRow (l .before .before .before .args .kind) .widths) =
+    omega (arith, c .before .before .before .before .before .before .before .before .loop-test .taken, l .before .field-count .ensures) in
+    let begins = c .before .before .before .before .before .before .before .past-spaces .ensures in
+    let some : c .before .before .before .before .before .before .before .past-spaces .result < length (l .before .before .before .args .line .now) =
+    omega (arith, begins .1, c .before .before .before .before .before .before .if1 .left) in
+    rw add-one (fields-bad _ _ _ (l .loop .inv) _ _ _ under
+    (fields-next _ _ _ (begins .0) _ some (c .before .before .before .before .before .past-field .ensures .0))
+    (sym (c .before .told .given .1) ∙ c .before .before .before .field-told .ensures))
 
--- src/lib.rt:85:25
-enum-known-told-2 : tie.Need-enum-known-told-2 Inv-loop μ-loop
-enum-known-told-2 c = search needs
-
--- src/lib.rt:86:17
 mul-values : tie.Need-mul-values Inv-loop μ-loop
-mul-values c = search needs
+mul-values c = let l = c .before .before .before .before .before .before .before .before .before in
+    omega (
+      arith,
+      c .before .before .before .before .before .before .before .before .loop-test .taken,
+      l .before .field-count .ensures,
+      few-fields _ (l .before .before .before .pre .2),
+    )
 
--- src/lib.rt:86:17
 element-write-values : tie.Need-element-write-values Inv-loop μ-loop
-element-write-values c = search needs
+element-write-values c = let l = c .before .before .before .before .before .before .before .before .before in
+    omega (
+      arith,
+      c .before .before .before .before .before .before .before .before .loop-test .taken,
+      l .before .field-count .ensures,
+      few-fields _ (l .before .before .before .pre .2),
+    )
 
--- src/lib.rt:74:9
-add-place : tie.Need-add-place Inv-loop μ-loop
-add-place c = search needs
-
--- src/lib.rt:74:5
-loop-less : tie.Need-loop-less Inv-loop μ-loop
-loop-less c = search needs
-
--- src/lib.rt:74:5
 loop-again : tie.Need-loop-again Inv-loop μ-loop
-loop-again c = search needs
+loop-again c = let l = c .before .before .before .before .before .before .before .before .before in
+    let under : l .loop .place < length (kindRow (l .before .before .before .args .kind) .widths) =
+    omega (arith, c .before .before .before .before .before .before .before .before .loop-test .taken, l .before .field-count .ensures) in
+    let begins = c .before .before .before .before .before .before .before .past-spaces .ensures in
+    let some : c .before .before .before .before .before .before .before .past-spaces .result < length (l .before .before .before .args .line .now) =
+    omega (arith, begins .1, c .before .before .before .before .before .before .if1 .left) in
+    let ends = c .before .before .before .before .before .past-field .ensures in
+    rw add-one (fields-more _ _ _ (l .loop .inv) _ _ _ (l .before .before .before .pre .2) under (ends .1)
+    (fields-next _ _ _ (begins .0) _ some (ends .0)) (sym (c .before .told2 .given .1) ∙ c .before .before .before .field-told .ensures))
 
--- src/lib.rt:91:8
-past-spaces-requires-2 : tie.Need-past-spaces-requires-2 Inv-loop μ-loop
-past-spaces-requires-2 c κs = search needs
-
--- src/lib.rt:92:43
 add-t28 : tie.Need-add-t28 Inv-loop μ-loop
-add-t28 c = search needs
+add-t28 c = let l = c .before .before .before in
+    omega (arith, l .before .field-count .ensures, few-fields _ (l .before .before .before .pre .2))
 
--- src/lib.rt:92:9
 returns-3 : tie.Need-returns-3 Inv-loop μ-loop
-returns-3 c = search needs
+returns-3 c = let l = c .before .before .before in
+    let over : length (kindRow (l .before .before .before .args .kind) .widths) ≤ l .loop .place =
+    omega (arith, c .before .before .loop-test .left, l .before .field-count .ensures) in
+    let same : l .loop .place ≡ l .before .field-count .result = omega (arith, over, l .loop .inv .many, l .before .field-count .ensures) in
+    rw (add-one, ← same) (fields-extra _ _ _ (l .loop .inv) over _ _ (fields-next _ _ _ (c .before .past-spaces2 .ensures .0) _ (c .if2 .taken) refl))
 
--- src/lib.rt:68:1
 returns-4 : tie.Need-returns-4 Inv-loop μ-loop
-returns-4 c = search needs
+returns-4 c = let l = c .before .before .before in
+    let over : length (kindRow (l .before .before .before .args .kind) .widths) ≤ l .loop .place =
+    omega (arith, c .before .before .loop-test .left, l .before .field-count .ensures) in
+    fields-all _ _ _ (l .loop .inv) (l .before .before .before .pre .2) (omega (arith, over, l .loop .inv .many))
+    (fields-end _ _ _ (c .before .past-spaces2 .ensures .0) (c .if2 .left))
 
 pub fields-say-spec : {M : Type 1} → statement M
 fields-say-spec =
@@ -121,17 +123,17 @@ fields-say-spec =
     sub-field-told
     part-field-told-start
     part-field-told-end
-    field-told-requires
-    enum-known-told
-    add-t20
+    (λ c κs. search needs)
+    (λ c. search needs)
+    (λ c. search needs)
     returns-2
-    enum-known-told-2
+    (λ c. search needs)
     mul-values
     element-write-values
-    add-place
-    loop-less
+    (λ c. search needs)
+    (λ c. search needs)
     loop-again
-    past-spaces-requires-2
+    (λ c κs. search needs)
     add-t28
     returns-3
     returns-4)

@@ -1,29 +1,22 @@
+-- `is_space` meets its contract: the arms are the three bytes.
 use borrow.Author.Tests.{ne-eqb}
 use Rattle.lists.specs.Search.{some}
 use Rattle.lines.specs.Said.{isSpace}
--- `is_space` meets its contract: the arms are the three bytes.
-use borrow.Author.Needs.{needs}
 use Rattle.lines.proofs.bounds.is_space.Statement.{statement}
 use Rattle.lines.proofs.bounds.is_space.Tie as tie
-use Rattle.lines.proofs.bounds.is_space.Reads as reads
-use Rattle.lines.proofs.bounds.is_space.Lts as lts
 
--- src/bounds.rt:37:1
 returns : tie.Need-returns
 unfolding isSpace some
 returns c = rw (c .match .keys1)
 
--- src/bounds.rt:37:1
 returns-2 : tie.Need-returns-2
 unfolding isSpace some
 returns-2 c = rw (c .match .keys2)
 
--- src/bounds.rt:37:1
 returns-3 : tie.Need-returns-3
 unfolding isSpace some
 returns-3 c = rw (c .match .keys3)
 
--- src/bounds.rt:37:1
 returns-4 : tie.Need-returns-4
 unfolding isSpace some
 returns-4 c = let r = c .match .rest in simp (ne-eqb _ _ (r .1), ne-eqb _ _ (r .0 .1), ne-eqb _ _ (r .0 .0 .1))

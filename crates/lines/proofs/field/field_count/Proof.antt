@@ -1,33 +1,25 @@
-use Rattle.lines.proofs.Rows.{one-field}
-use Rattle.trace.specs.Table.{rows, firstRow, kindRow}
 -- `field_count` meets its contract: the arms are the rows of the table.
-use borrow.Author.Needs.{needs}
+use Rattle.trace.specs.Table.{rows, firstRow, kindRow}
+use Rattle.lines.proofs.Rows.{one-field}
 use Rattle.lines.proofs.field.field_count.Statement.{statement}
 use Rattle.lines.proofs.field.field_count.Tie as tie
-use Rattle.lines.proofs.field.field_count.Reads as reads
-use Rattle.lines.proofs.field.field_count.Lts as lts
 
--- src/field.rt:26:1
 returns : tie.Need-returns
 unfolding kindRow firstRow rows
 returns c = rw (c .match .keys1)
 
--- src/field.rt:26:1
 returns-2 : tie.Need-returns-2
 unfolding kindRow firstRow rows
 returns-2 c = rw (c .match .keys2)
 
--- src/field.rt:26:1
 returns-3 : tie.Need-returns-3
 unfolding kindRow firstRow rows
 returns-3 c = rw (c .match .keys3)
 
--- src/field.rt:26:1
 returns-4 : tie.Need-returns-4
 unfolding kindRow firstRow rows
 returns-4 c = rw (c .match .keys4)
 
--- src/field.rt:26:1
 returns-5 : tie.Need-returns-5
 returns-5 c = let r = c .match .rest in one-field _ (c .before .pre) (r .0 .0 .0 .1) (r .0 .0 .1) (r .0 .1) (r .1)
 
