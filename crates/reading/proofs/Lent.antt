@@ -7,12 +7,10 @@ use lib.ListN.{length, take}
 use lib.Seq.{getD-take, length-take-le}
 use Rattle.lists.specs.Table.{listBelow}
 use Rattle.lists.proofs.Below.{below-same}
-use Rattle.writing.specs.Rows.{Rows, rows, rowCount, known, entry, entries}
+use Rattle.writing.specs.Rows.{Rows, rowCount, known, entry, entries}
+use Rattle.reading.specs.Inner.Row.{firstRows}
 use Rattle.reading.specs.Inner.Walk.{ItemsRead}
 use Rattle.reading.proofs.Rows.{entry-same}
-
-abbrev pub firstRows : ℕ → Rows → Rows
-firstRows n r = rows (take (2 * n) (r .heads)) (take (10 * n) (r .bytes)) (take (8 * n) (r .words))
 
 pub lent-row : (n : ℕ) (r : Rows) (i : ℕ) → i < n → entry (firstRows n r) i ≡ entry r i
 lent-row n r i l = entry-same (firstRows n r) r i i (record {

@@ -1,4 +1,4 @@
--- Laws of rows: what a row says depends on its own numbers only, and a store in one row leaves the others.
+-- What a row says depends on its own numbers only.
 use Prim.Native.Nat.{ℕ, _+_, _*_, _<_}
 use mathlib.Core.Path.{_≡_, refl, ap, _∙_}
 use mathlib.Core.Bool.{Bool}
@@ -14,7 +14,7 @@ use Rattle.event.specs.Event.{event, drain}
 use Rattle.trace.specs.Item.{shape, word, request, act}
 use Rattle.trace.specs.Table.{Row, noRow, firstRow, kindRow}
 use Rattle.trace.specs.Table as T
-use Rattle.writing.specs.Rows.{Rows, rows, kindAt, cell, picked, entryOf, entry, known}
+use Rattle.writing.specs.Rows.{Rows, kindAt, cell, picked, entryOf, entry, known}
 
 -- ---- a row's own numbers
 -- what holds of each row of the table, and where there is none, holds of the row that is found

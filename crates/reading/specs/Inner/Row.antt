@@ -1,5 +1,5 @@
 -- What the storing of an item in a row asks and promises.
-use Prim.Native.Nat.{ℕ, _+_, _<_}
+use Prim.Native.Nat.{ℕ, _+_, _*_, _<_}
 use mathlib.Core.Path.{_≡_}
 use mathlib.Core.Logic.{_≢_}
 use mathlib.Core.Bool.{true}
@@ -8,7 +8,7 @@ use lib.ListN.{length, getD, take, set}
 use Rattle.trace.specs.Item.{Item}
 use Rattle.trace.specs.Table.{isRow, kindRow}
 use Rattle.trace.specs.Inner.Fits.{FieldsFit}
-use Rattle.writing.specs.Rows.{Rows, rowCount, known, entry}
+use Rattle.writing.specs.Rows.{Rows, rows, rowCount, known, entry}
 
 -- the numbers of a kind's fields: the first of those that were read, and the item with them
 abbrev pub fieldsOf : ℕ → List ℕ → List ℕ
@@ -40,6 +40,10 @@ pub record SameSizes (r r′ : Rows) : Type 0 where
   pub heads-size : length (r′ .heads) ≡ length (r .heads)
   pub bytes-size : length (r′ .bytes) ≡ length (r .bytes)
   pub words-size : length (r′ .words) ≡ length (r .words)
+
+-- the first n rows by themselves, as a caller lends them
+abbrev pub firstRows : ℕ → Rows → Rows
+firstRows n r = rows (take (2 * n) (r .heads)) (take (10 * n) (r .bytes)) (take (8 * n) (r .words))
 
 -- row i says the item, and the others what they said
 pub record RowPut (kind : ℕ) (values : List ℕ) (i : ℕ) (r r′ : Rows) : Type 0 where
