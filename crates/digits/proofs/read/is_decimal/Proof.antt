@@ -5,11 +5,11 @@ use native.Mathlib.Omega.{arith}
 use native.Mathlib.Numerals.{add-one}
 use lib.ListN.{length, take}
 use lib.Seq.{take-suc, take-all}
+use borrow.Author.Needs.{needs}
 use Rattle.lists.specs.Search.{All, nil}
 use Rattle.lists.proofs.Every.{all-more}
 use Rattle.digits.specs.Inner.Value.{IsDigit}
 use Rattle.digits.proofs.Spelling.{none-decimal, zero-first, no-digit, digits-decimal}
-use borrow.Author.Needs.{needs}
 use Rattle.digits.proofs.read.is_decimal.Statement.{statement}
 use Rattle.digits.proofs.read.is_decimal.Tie as tie
 

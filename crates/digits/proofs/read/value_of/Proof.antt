@@ -5,9 +5,9 @@ use native.Mathlib.Omega.{arith}
 use native.Mathlib.Numerals.{add-one}
 use lib.ListN.{length, getD, take}
 use lib.Seq.{take-all}
+use borrow.Author.Needs.{needs}
 use Rattle.digits.specs.Numeral.{valueIn}
 use Rattle.digits.proofs.Spelling.{digit-at, value-none, value-more, too-large, fits}
-use borrow.Author.Needs.{needs}
 use Rattle.digits.proofs.read.value_of.Statement.{statement}
 use Rattle.digits.proofs.read.value_of.Tie as tie
 
@@ -41,7 +41,8 @@ loop-again : tie.Need-loop-again Inv-loop μ-loop
 loop-again c = let l = c .before .before .before .loop in
     let text = c .before .before .before .before .args .text .now in
     let h : l .i < length text = omega arith in
-    let small : l .n * 10 + (getD text (l .i) 0 - 48) < 2 ^ 64 = omega (arith, digit-at text (l .i) (c .before .before .before .before .pre) h .1, c .if1 .left) in
+    let small : l .n * 10 + (getD text (l .i) 0 - 48) < 2 ^ 64 =
+    omega (arith, digit-at text (l .i) (c .before .before .before .before .pre) h .1, c .if1 .left) in
     (omega arith, refl, rw (add-one, value-more text (l .i) h, ← (l .inv .2)), small)
 
 returns-2 : tie.Need-returns-2 Inv-loop μ-loop
