@@ -3,10 +3,12 @@
 use input::read_all;
 use libc::STDERR_FILENO;
 use libc::STDOUT_FILENO;
+use lines::Reason;
 use reading::Answer;
 use reading::row::BYTES;
 use reading::row::HEADS;
 use reading::row::WORDS;
+use writing::Written;
 
 mod told;
 
@@ -16,12 +18,38 @@ const LONGEST_TEXT: usize = 1048576;
 // One row more than the longest trace has records, of six bytes at the least, so that a longer list is refused by 10.
 const ROWS: usize = 10923;
 
+// A line that is no item. Where standard error cannot be written, there is nobody to tell.
+fn tell_wrong(line: usize, reason: Reason, place: usize) {
+    let mut told = [0u8; told::ROOM];
+    let len = told::put_wrong(&mut told, line as u64, reason, place as u64);
+    io::write_all(STDERR_FILENO, &told[..len]);
+}
+
+// The number of the line that a refusal is about; 0 where it is about the list of so many items: 10, and an empty list.
+fn line_refused(text: &[u8], items: usize, written: Written) -> usize {
+    if items == 0 {
+        return 0;
+    }
+    if written.refusal == 10 {
+        return 0;
+    }
+    reading::line_of(text, written.row as usize)
+}
+
+// Why so many items of a text are refused.
+fn tell_refused(text: &[u8], items: usize, written: Written) {
+    let line = line_refused(text, items, written);
+    let mut told = [0u8; told::ROOM];
+    let len = told::put_refused(&mut told, written.refusal, written.offset, line as u64);
+    io::write_all(STDERR_FILENO, &told[..len]);
+}
+
 // The records of rows that say the items of a text, to standard output; or why they are refused.
 fn write_rows(text: &[u8], heads: &[u16], bytes: &[u8], words: &[u64]) {
     let mut out = [0u8; trace::LONGEST];
     let written = writing::write(heads, bytes, words, &mut out);
     if written.refusal != 0 {
-        told::refused(text, heads.len() / HEADS, written);
+        tell_refused(text, heads.len() / HEADS, written);
         return;
     }
     let len = written.len as usize;
@@ -37,7 +65,7 @@ fn write_trace(text: &[u8]) {
     let mut words = [0u64; WORDS * ROWS];
     let answer = reading::read(text, &mut heads, &mut bytes, &mut words);
     match answer {
-        Answer::Wrong(line, reason, place) => told::wrong_line(line, reason, place),
+        Answer::Wrong(line, reason, place) => tell_wrong(line, reason, place),
         Answer::Items(n) => {
             let h = HEADS * n;
             let b = BYTES * n;
