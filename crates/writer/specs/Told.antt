@@ -1,12 +1,14 @@
 -- The lines that the writer tells on standard error: request No. 1 of document 02.
 use Prim.Native.Nat.{ℕ}
 use mathlib.Core.List.{List, [], _∷_, _++_}
+use lib.ListN.{getD}
 use lib.Dec.{eqb}
 use Rattle.lists.specs.Choice.{choose}
 use Rattle.digits.specs.Numeral.{bytesOf, decimal}
 use Rattle.digits.specs.Line.{line}
 use Rattle.lines.specs.declared.Reason.{Reason}
 use Rattle.lines.specs.declared.Reason.the-variants.{Name, Missing, Extra, NoNumber, TooLarge}
+use Rattle.reading.specs.Text.{itemLines}
 
 -- no line is longer
 abbrev pub toldRoom : ℕ
@@ -23,6 +25,10 @@ reasonFields TooLarge place = bytesOf "field" ∷ decimal place ∷ bytesOf "is 
 -- "`line L: REASON`"
 unfoldable pub wrongText : ℕ → Reason → ℕ → List ℕ
 wrongText number reason place = line (bytesOf "line" ∷ (decimal number ++ bytesOf ":") ∷ reasonFields reason place)
+
+-- the line of the item that is refused, 0 where there is none: 10 is about the list, and an empty list has no item
+unfoldable pub lineRefused : List ℕ → ℕ → ℕ → ℕ
+lineRefused text refusal row = choose (eqb refusal 10) 0 (getD (itemLines text) row 0)
 
 -- no line has the number 0
 unfoldable pub lineFields : ℕ → List (List ℕ)

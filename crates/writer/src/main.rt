@@ -1,5 +1,7 @@
 // The writer of traces: items as lines from standard input, the trace to standard output. A line that is no item, and a list that is
 // refused, is told in one line on standard error; then standard output stays empty.
+ghost use mathlib.Core.Path.{_≡_};
+ghost use Rattle.writer.specs.Told.{lineRefused};
 use input::read_all;
 use libc::STDERR_FILENO;
 use libc::STDOUT_FILENO;
@@ -8,7 +10,6 @@ use reading::Answer;
 use reading::row::BYTES;
 use reading::row::HEADS;
 use reading::row::WORDS;
-use writing::Written;
 
 mod told;
 
@@ -25,22 +26,21 @@ fn tell_wrong(line: usize, reason: Reason, place: usize) {
     io::write_all(STDERR_FILENO, &told[..len]);
 }
 
-// The number of the line that a refusal is about; 0 where it is about the list of so many items: 10, and an empty list.
-fn line_refused(text: &[u8], items: usize, written: Written) -> usize {
-    if items == 0 {
+// The number of the line that a refusal is about; 0 where it is about the list: 10, and an empty list.
+fn line_refused(text: &[u8], refusal: u64, row: u64) -> usize
+    ensures { λ r. ⌜ r ≡ lineRefused (now (text .entry)) refusal row ⌝ }
+{
+    if refusal == 10 {
         return 0;
     }
-    if written.refusal == 10 {
-        return 0;
-    }
-    reading::line_of(text, written.row as usize)
+    reading::line_of(text, row as usize)
 }
 
-// Why so many items of a text are refused.
-fn tell_refused(text: &[u8], items: usize, written: Written) {
-    let line = line_refused(text, items, written);
+// Why the items of a text are refused.
+fn tell_refused(text: &[u8], refusal: u64, offset: u64, row: u64) {
+    let line = line_refused(text, refusal, row);
     let mut told = [0u8; told::ROOM];
-    let len = told::put_refused(&mut told, written.refusal, written.offset, line as u64);
+    let len = told::put_refused(&mut told, refusal, offset, line as u64);
     io::write_all(STDERR_FILENO, &told[..len]);
 }
 
@@ -49,7 +49,7 @@ fn write_rows(text: &[u8], heads: &[u16], bytes: &[u8], words: &[u64]) {
     let mut out = [0u8; trace::LONGEST];
     let written = writing::write(heads, bytes, words, &mut out);
     if written.refusal != 0 {
-        tell_refused(text, heads.len() / HEADS, written);
+        tell_refused(text, written.refusal, written.offset, written.row);
         return;
     }
     let len = written.len as usize;
