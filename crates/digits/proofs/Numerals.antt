@@ -14,7 +14,7 @@ use Rattle.lists.proofs.Every.{all-append}
 use Rattle.digits.specs.Numeral.{digit, numeralIn, numeral, decimal, valueFrom, valueIn}
 use Rattle.digits.specs.Inner.Value.{binary}
 
-valueFrom-append : (base n : ℕ) (ds es : List ℕ) → valueFrom base n (ds ++ es) ≡ valueFrom base (valueFrom base n ds) es
+pub valueFrom-append : (base n : ℕ) (ds es : List ℕ) → valueFrom base n (ds ++ es) ≡ valueFrom base (valueFrom base n ds) es
 unfolding valueFrom
 valueFrom-append base n [] es = refl
 valueFrom-append base n (d ∷ ds) es = valueFrom-append base _ ds es
@@ -73,7 +73,7 @@ module _ (base : ℕ) (two : 2 ≤ base) where
   numeral-some = numeral-ind (λ n l. 1 ≤ length l) (λ n h. omega arith) (λ n h s. rw length-append (omega arith))
 
   -- a number below base ^ k has at most k digits
-  numeral-length : (k n : ℕ) → n < base ^ suc k → length (numeral base n) ≤ suc k
+  pub numeral-length : (k n : ℕ) → n < base ^ suc k → length (numeral base n) ≤ suc k
   numeral-length zero n h = rw (numeral-one n (rw (pow-suc, pow-zero, one-mul) at h)) (omega arith)
   numeral-length (suc k) n h =
       by-cases (decLt n base)

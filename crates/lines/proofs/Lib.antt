@@ -1,2 +1,7 @@
 -- The laws of lines.
 pub mod Examples
+pub mod Fields
+pub mod Lines
+pub mod Numbers
+pub mod Rows
+pub mod Spans

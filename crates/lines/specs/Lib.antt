@@ -1,3 +1,4 @@
 -- The definitions of this crate.
 pub mod Forms
 pub mod Said
+pub mod Inner

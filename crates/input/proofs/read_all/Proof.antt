@@ -5,14 +5,17 @@ use lib.ListN.{length}
 use lib.Seq.{length-take-le}
 use native.Mathlib.Omega.{arith}
 use borrow.Author.Needs.{needs}
-use Rattle.runner.proofs.read_all.Statement.{statement}
-use Rattle.runner.proofs.read_all.Tie as tie
+use Rattle.input.proofs.read_all.Statement.{statement}
+use Rattle.input.proofs.read_all.Tie as tie
 
 abbrev Inv-loop : tie.InvT-loop
 Inv-loop buffer₀ got₀ reads₀ buffer got reads = (got ≤ length buffer) × (length buffer ≡ length buffer₀)
 
 abbrev μ-loop : tie.MeasureT-loop
 μ-loop buffer₀ got₀ reads₀ buffer got reads = reads
+
+add-reads : tie.Need-add-reads Inv-loop μ-loop
+add-reads c = search needs
 
 loop-holds : tie.Need-loop-holds Inv-loop μ-loop
 loop-holds c = search needs
@@ -77,6 +80,7 @@ read-all-spec =
     (tie.spec
     Inv-loop
     μ-loop
+    add-reads
     loop-holds
     same-length
     returns
