@@ -1,4 +1,4 @@
--- The proofs of the C interface: the answer in six numbers, the report, and that each is the only one.
+-- The proofs of the C interface: the answer in six numbers, the report and the listing, and that each is the only one.
 pub mod Answers
 pub mod Reports
 pub mod Unique

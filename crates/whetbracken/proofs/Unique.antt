@@ -7,12 +7,14 @@ use native.Mathlib.Omega.{arith}
 use Rattle.trace.proofs.Answers.{number-range}
 use Rattle.report.specs.declared.Written.{Written}
 use Rattle.report.proofs.Unique.{only-one as only-one-written}
+use Rattle.listing.specs.declared.Printed.{Printed}
+use Rattle.listing.proofs.Unique.{only-one as only-one-printed}
 use Rattle.model.specs.Result.{Lent}
 use Rattle.model.specs.Promise.{Said, refused, counted, says}
 use Rattle.model.specs.declared.Answer.{Answer}
 use Rattle.model.specs.declared.Answer.the-variants.{Accepted, Refused, NoRoom}
 use Rattle.model.proofs.Unique.{says-injective}
-use Rattle.whetbracken.specs.Interface.{numbers, Answered, Wrote}
+use Rattle.whetbracken.specs.Interface.{numbers, Answered, Wrote, ItemsPrinted}
 use Rattle.whetbracken.specs.declared.Numbers.{Numbers}
 use Rattle.whetbracken.proofs.Answers.{numbers-said, memory-left}
 
@@ -24,6 +26,12 @@ pub only-one-report : (trace before : List ℕ) (n n′ : ℕ) (after after′ :
 only-one-report trace before n n′ after after′ p p′ =
     let z = only-one-written trace before (p .written) (p′ .written) after after′ (p .reported) (p′ .reported) in
     (p .len-is ∙ ap (λ (w : Written). w .len) (z .0) ∙ sym (p′ .len-is), z .1)
+
+pub only-one-listing : (trace before : List ℕ) (n n′ : ℕ) (after after′ : List ℕ) → ItemsPrinted trace before n after → ItemsPrinted trace before n′ after′ →
+    (n ≡ n′) × (after ≡ after′)
+only-one-listing trace before n n′ after after′ p p′ =
+    let z = only-one-printed trace before (p .printed) (p′ .printed) after after′ (p .listed) (p′ .listed) in
+    (p .len-is ∙ ap (λ (w : Printed). w .len) (z .0) ∙ sym (p′ .len-is), z .1)
 
 -- ---- no refusal has number 0
 abbrev Numbered : Said → Type 0

@@ -1,9 +1,12 @@
--- What the C interface promises, for every trace and all lent memory: the promises of `model` and `report`, with the answer in six numbers.
+-- What the C interface promises, for every trace and all lent memory: the promises of `model`, `report` and `listing`, the answer in six
+-- numbers. The writer's is its own (writing/specs/Promise).
 use Prim.Native.Nat.{ℕ}
 use mathlib.Core.Path.{_≡_}
 use mathlib.Core.List.{List}
 use Rattle.report.specs.Written.{Reported}
 use Rattle.report.specs.declared.Written.{Written}
+use Rattle.listing.specs.Listing.{Listed}
+use Rattle.listing.specs.declared.Printed.{Printed}
 use Rattle.model.specs.Result.{Lent}
 use Rattle.model.specs.Promise.{Said, refused, counted, says}
 use Rattle.model.specs.Demands.{Kept}
@@ -27,3 +30,9 @@ pub record Wrote (trace before : List ℕ) (len : ℕ) (after : List ℕ) : Type
   pub written : Written
   pub len-is : len ≡ written .len
   pub reported : Reported trace before written after
+
+-- the length of what keeps the promise of `listing`: 0 where the buffer has no room for every listing, and then it stays
+pub record ItemsPrinted (trace before : List ℕ) (len : ℕ) (after : List ℕ) : Type 0 where
+  pub printed : Printed
+  pub len-is : len ≡ printed .len
+  pub listed : Listed trace before printed after

@@ -1,10 +1,13 @@
-// The C interface: the public entry and the report under C names, each slice a pointer and a length. include/whetbracken.h declares
+// The C interface: the public entry, the report, the writer and the listing under C names, each slice a pointer and a length. include/whetbracken.h declares
 // them for C.
 use model::Answer;
+use writing::Written;
 ghost use mathlib.Core.Path.{_≡_};
 ghost use Rattle.model.specs.Result.{lent};
 ghost use Rattle.model.specs.Promise.{says};
-ghost use Rattle.whetbracken.specs.Interface.{numbers, Answered, Wrote};
+ghost use Rattle.writing.specs.Rows.{rows};
+ghost use Rattle.writing.specs.Promise.{Promised};
+ghost use Rattle.whetbracken.specs.Interface.{numbers, Answered, Wrote, ItemsPrinted};
 
 // What a trace is told, as numbers: 0 and the four counts of the run, or the refusal's number and its offset.
 #[repr(C)]
@@ -40,6 +43,23 @@ pub extern "C" fn whetbracken_report(trace: &[u8], out: &mut [u8]) -> usize
 {
     let written = report::report(trace, out);
     written.len
+}
+
+// The records of a list of items at the start of a lent output; a row of the list stands in three slices.
+#[no_mangle]
+pub extern "C" fn whetbracken_write(heads: &[u16], bytes: &[u8], words: &[u64], out: &mut [u8]) -> Written
+    ensures { λ r. ⌜ Promised (rows (now (heads .entry)) (now (bytes .entry)) (now (words .entry))) (now (out .entry)) r (now (out .exit)) ⌝ }
+{
+    writing::write(heads, bytes, words, out)
+}
+
+// The items of a trace as lines at the start of a lent buffer, and their length: 0 where the buffer has no room for every listing.
+#[no_mangle]
+pub extern "C" fn whetbracken_items(trace: &[u8], out: &mut [u8]) -> usize
+    ensures { λ r. ⌜ ItemsPrinted (now (trace .entry)) (now (out .entry)) r (now (out .exit)) ⌝ }
+{
+    let printed = listing::listing(trace, out);
+    printed.len
 }
 
 fn numbers_of(told: Answer) -> Numbers
