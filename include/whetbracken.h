@@ -8,12 +8,12 @@
  *   4 event    what (0 issue, 1 forward, 2 module, 3 return, 4 collect), level, position
  *   5 drain    the most rounds (2 bytes)
  *
- * Each function below is proved to do what its comment says, for every trace and all lent memory. It keeps nothing between calls, so
- * any number of calls may run at once.
+ * Each function below is proved to do what its comment says, for every trace or list and all lent memory. It keeps nothing between
+ * calls, so any number of calls may run at once.
  *
  * What a caller owes, and no proof can see: each pointer is aligned, not null (also where its length is 0), and leads to as many
- * elements as the length beside it says; no two of the lent parts overlap, nor does one overlap the trace; and a call has 64 KB of
- * stack. */
+ * elements as the length beside it says; no two of the lent parts overlap, nor does one overlap the trace or the list; and a call has
+ * 64 KB of stack. */
 #ifndef WHETBRACKEN_H
 #define WHETBRACKEN_H
 
