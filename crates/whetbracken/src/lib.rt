@@ -47,7 +47,12 @@ pub extern "C" fn whetbracken_report(trace: &[u8], out: &mut [u8]) -> usize
 
 // The records of a list of items at the start of a lent output; a row of the list stands in three slices.
 #[no_mangle]
-pub extern "C" fn whetbracken_write(heads: &[u16], bytes: &[u8], words: &[u64], out: &mut [u8]) -> Written
+pub extern "C" fn whetbracken_write(
+    heads: &[u16],
+    bytes: &[u8],
+    words: &[u64],
+    out: &mut [u8],
+) -> Written
     ensures { λ r. ⌜ Promised (rows (now (heads .entry)) (now (bytes .entry)) (now (words .entry))) (now (out .entry)) r (now (out .exit)) ⌝ }
 {
     writing::write(heads, bytes, words, out)

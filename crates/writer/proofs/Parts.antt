@@ -1,7 +1,7 @@
 -- The reason stands behind the number of its line.
 use Prim.Native.Nat.{ℕ}
 use mathlib.Core.Path.{_≡_, refl}
-use mathlib.Core.List.{List, _++_}
+use mathlib.Core.List.{_++_}
 use Rattle.digits.specs.Numeral.{bytesOf, decimal}
 use Rattle.digits.specs.Line.{line}
 use Rattle.lines.specs.declared.Reason.{Reason}

@@ -1,2 +1,3 @@
 -- The definitions of this crate.
 pub mod Told
+pub mod Made

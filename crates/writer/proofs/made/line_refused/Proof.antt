@@ -1,10 +1,9 @@
--- `line_refused` meets its contract.
-use mathlib.Core.Path.{sym}
+-- `made::line_refused` meets its contract.
 use borrow.Author.Needs.{needs}
 use borrow.Author.Tests.{eq-eqb, ne-eqb}
 use Rattle.writer.specs.Told.{lineRefused}
-use Rattle.writer.proofs.line_refused.Statement.{statement}
-use Rattle.writer.proofs.line_refused.Tie as tie
+use Rattle.writer.proofs.made.line_refused.Statement.{statement}
+use Rattle.writer.proofs.made.line_refused.Tie as tie
 
 returns : tie.Need-returns
 unfolding lineRefused
