@@ -61,6 +61,7 @@ fn rows_made(
     }
 }
 
+// What is made of a text: the first line that is no item is told; else its items are written or refused.
 pub fn text_made(text: &[u8], out: &mut [u8], told: &mut [u8]) -> Lengths
     requires { ⌜ (length (now out) ≡ 65536) × (toldRoom ≤ length (now told)) ⌝ }
     ensures { λ r. ⌜ MadeIn (textMade (now (text .entry))) r (now (out .exit)) (now (told .exit)) ⌝ }
