@@ -1,23 +1,23 @@
 -- The rows checked one by one: what each says, and what the rest then decides.
-use Prim.Native.Nat.{ℕ, zero, suc, _+_, _*_, _≤_, _<_}
-use mathlib.Core.Path.{_≡_, refl, ap, sym, _∙_, subst}
+use Prim.Native.Nat.{ℕ, zero, suc, _+_, _≤_, _<_}
+use mathlib.Core.Path.{_≡_, refl, ap, sym, _∙_}
 use mathlib.Core.Logic.{_≢_}
 use mathlib.Core.Bool.{true, false}
-use mathlib.Core.List.{List, [], _∷_}
+use mathlib.Core.List.{List, _∷_}
 use native.Mathlib.Numerals.{add-one}
 use native.Mathlib.Omega.{arith}
-use lib.ListN.{length, drop, replicate, length-replicate, getD-replicate, drop-of-length-le}
+use lib.ListN.{drop, replicate, length-replicate, getD-replicate, drop-of-length-le}
 use lib.Seq.{drop-cons}
 use Rattle.lists.specs.Search.{some}
 use Rattle.lists.specs.Table.{listBelow}
 use Rattle.lists.proofs.Below.{length-below, getD-below}
-use Rattle.trace.specs.Item.{Item, Items, none, after, request}
+use Rattle.trace.specs.Item.{Items, none, after}
 use Rattle.trace.specs.Table.{isRow, recordSize, size}
 use Rattle.trace.specs.Contents.{contents, lastSection, actsAt}
 use Rattle.trace.specs.Refusals.{fault}
-use Rattle.trace.specs.Check.{Verdict, refused, accepted, ended, decide, checkRecords}
+use Rattle.trace.specs.Check.{Verdict, refused, ended, decide, checkRecords}
 use Rattle.trace.specs.Answers.{numberOf}
-use Rattle.trace.specs.Inner.Known.{Known, RecordFault, Room, Noted, requestIn, begun}
+use Rattle.trace.specs.Inner.Known.{RecordFault, begun}
 use Rattle.trace.specs.declared.Fault.{Fault}
 use Rattle.trace.specs.declared.Fault.the-variants.{Kind, Order}
 use Rattle.trace.specs.declared.progress.Progress.{Progress}

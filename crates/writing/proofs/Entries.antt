@@ -1,11 +1,10 @@
 -- What a row says, and the bytes of its record.
-use Prim.Native.Nat.{ℕ, zero, suc, _+_, _*_, _≤_, _<_, _^_}
+use Prim.Native.Nat.{ℕ, zero, suc, _+_, _*_, _<_, _^_}
 use mathlib.Core.Path.{_≡_, refl, ap, sym, _∙_, subst}
-use mathlib.Core.Logic.{_⊎_, inl, inr}
 use mathlib.Core.Bool.{Bool, true, false}
 use mathlib.Core.List.{List, [], _∷_, _++_}
 use native.Mathlib.Omega.{arith}
-use lib.ListN.{length, getD, length-append}
+use lib.ListN.{length, getD}
 use lib.Dec.{eqb}
 use borrow.Author.Tests.{eqb-true}
 use Rattle.lists.specs.Choice.{choose, both}
@@ -14,15 +13,14 @@ use Rattle.lists.specs.Search.{some, All, nil, cons}
 use Rattle.lists.proofs.Tests.{both-true, clash}
 use Rattle.trace.specs.Bytes.{total}
 use Rattle.trace.specs.Item.{Item}
-use Rattle.trace.specs.Table.{Row, rows, bodySize, isRow, kindRow, bodyRow, item, Parts, partsOf, rowOf, recordSize}
+use Rattle.trace.specs.Table.{Row, rows, bodySize, isRow, bodyRow, item, Parts, partsOf, rowOf, recordSize}
 use Rattle.trace.specs.Write.{bytes, fieldBytes, recordOf}
 use Rattle.trace.specs.Inner.Fits.{FieldsFit, no-field, field-fits, FitsBytes}
 use Rattle.trace.specs.Inner.Known.{Bodied}
 use Rattle.trace.proofs.Fields.{length-field-bytes}
-use Rattle.trace.proofs.Numbers.{length-bytes}
 use Rattle.trace.proofs.Table.{kind-all, kind-right, kind-found, kind-none}
-use Rattle.trace.proofs.Written.{bodyOf, length-body, item-body}
-use Rattle.writing.specs.Rows.{Rows, kindAt, cell, picked, Entry, known, unknown, entryOf, entry}
+use Rattle.trace.proofs.Written.{bodyOf, item-body}
+use Rattle.writing.specs.Rows.{Rows, kindAt, cell, picked, known, unknown, entryOf, entry}
 use Rattle.writing.specs.Writing.{entrySize}
 use Rattle.writing.specs.Inner.Records.{rowAt, fieldsAt, bodyAt, recordAt, Typed}
 

@@ -9,17 +9,17 @@ use lib.Dec.{ltb}
 use borrow.Author.Tests.{le-leb}
 use Rattle.lists.specs.Choice.{choose}
 use Rattle.lists.specs.Table.{listBelow}
-use Rattle.lists.specs.Search.{All, nil, cons}
+use Rattle.lists.specs.Search.{All, nil}
 use Rattle.lists.proofs.Tests.{clash}
 use Rattle.lists.proofs.Every.{all-left, all-right, all-head, all-more}
 use Rattle.lists.proofs.Below.{all-below}
 use Rattle.trace.specs.Bytes.{AreBytes}
-use Rattle.trace.specs.Item.{Item, Items, none, after}
-use Rattle.trace.specs.Table.{isRow, recordSize, size}
+use Rattle.trace.specs.Item.{Items, none, after}
+use Rattle.trace.specs.Table.{isRow, size}
 use Rattle.trace.specs.Write.{recordOf, traceOf}
 use Rattle.trace.specs.Records.{Records, next, records, recordsUpTo}
 use Rattle.trace.specs.Refusals.{fault}
-use Rattle.trace.specs.Check.{Verdict, refused, accepted, ended, decide, checkRecords, check}
+use Rattle.trace.specs.Check.{refused, accepted, ended, decide, checkRecords, check}
 use Rattle.trace.specs.Inner.Fits.{FitsBytes, AllFitBytes, none-fit, after-fit}
 use Rattle.trace.proofs.Written.{records-written}
 use Rattle.trace.proofs.Accept.{accepted-is, length-trace, written-again}

@@ -10,14 +10,14 @@ use lib.Dec.{ltb}
 use borrow.Author.Tests.{ltb-false, le-leb, lt-leb}
 use Rattle.lists.specs.Over.{over}
 use Rattle.lists.proofs.Tests.{clash}
-use Rattle.trace.specs.Item.{Items, none}
+use Rattle.trace.specs.Item.{Items}
 use Rattle.trace.specs.Table.{size}
 use Rattle.trace.specs.Write.{traceOf}
-use Rattle.trace.specs.Check.{refused, accepted, check}
+use Rattle.trace.specs.Check.{accepted, check}
 use Rattle.trace.specs.Answers.{numberOf}
 use Rattle.trace.specs.declared.Fault.{Fault}
 use Rattle.trace.proofs.Accept.{length-trace}
-use Rattle.writing.specs.Rows.{Rows, rowCount, entry, entries}
+use Rattle.writing.specs.Rows.{Rows, rowCount, entries}
 use Rattle.writing.specs.Writing.{listSize, checkList, Result, refusal, acceptance, count, toldBy, result, outputAfter, told}
 use Rattle.writing.specs.Promise.{Promised}
 use Rattle.writing.specs.declared.Written.{Written}
@@ -26,7 +26,6 @@ use Rattle.writing.specs.Inner.Sizes.{sizeTo, IsTooLong}
 use Rattle.writing.specs.Inner.Checked.{verdictOf, IsClean, IsFaulty}
 use Rattle.writing.proofs.Lists.{accepted-list, reads-what-was-written, records-are}
 use Rattle.writing.proofs.Sizes.{size-is}
-use Rattle.writing.proofs.Puts.{length-records}
 
 pub count-is : (r : Rows) → min (length (r .heads) / 2) (min (length (r .bytes) / 10) (length (r .words) / 8)) ≡ rowCount r
 unfolding rowCount

@@ -1,7 +1,6 @@
 -- `put_rows` meets its contract: after i turns the records of i rows are written.
 use Prim.Native.Nat.{_-_}
 use native.Mathlib.Omega.{arith}
-use denote.Ref.{now}
 use borrow.Author.Needs.{needs}
 use Rattle.writing.specs.Rows.{rows}
 use Rattle.writing.proofs.Puts.{Put, row-in, put-start, put-room, put-more, put-done}

@@ -4,14 +4,13 @@ use mathlib.Core.Path.{_≡_, ap, sym, _∙_}
 use native.Mathlib.Omega.{arith}
 use denote.Ref.{now}
 use lib.ListN.{getD, take, drop, length-append}
-use borrow.Author.Tests.{ne-eqb}
 use borrow.Author.Needs.{needs}
 use Rattle.digits.proofs.Buffer.{wrote-nothing, wrote-then}
-use Rattle.trace.specs.Table.{rows as table, firstRow, bodySize, kindRow}
-use Rattle.trace.specs.Write.{bytes, fieldBytes}
+use Rattle.trace.specs.Table.{bodySize, kindRow}
+use Rattle.trace.specs.Write.{bytes}
 use Rattle.trace.proofs.Numbers.{length-bytes}
-use Rattle.writing.specs.Rows.{rows, kindAt, picked}
-use Rattle.writing.specs.Inner.Records.{rowAt, bodyAt, Typed}
+use Rattle.writing.specs.Rows.{rows, kindAt}
+use Rattle.writing.specs.Inner.Records.{rowAt, Typed}
 use Rattle.writing.proofs.Bytes.{room-behind, length-part}
 use Rattle.writing.proofs.Bodies.{body-shape, body-word, body-request, body-event, body-drain, body-none, kind-sizes}
 use Rattle.writing.proofs.record.put_body.Statement.{statement}

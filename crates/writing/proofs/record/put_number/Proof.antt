@@ -1,6 +1,5 @@
 -- `put_number` meets its contract: after i turns i bytes are written, and the rest of the number is left.
-use Prim.Native.Nat.{_-_, _≤_}
-use mathlib.Core.Path.{_≡_}
+use Prim.Native.Nat.{_-_}
 use native.Mathlib.Omega.{arith}
 use borrow.Author.Needs.{needs}
 use Rattle.writing.proofs.Bytes.{Spelling, spelling-start, spelling-more, spelling-done}
