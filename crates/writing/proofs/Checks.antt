@@ -55,7 +55,9 @@ may-check {r} {i} s = record {
 module _ {r : Rows} {i : ℕ} {p : Progress} {marks : List ℕ} (s : Inside r i p marks) (l : i < rowCount r) where
   -- what row i and the rest decide
   with-row : (e : Entry) → entry r i ≡ e → verdictOf r ≡ checkRecords (s .before) (recordsOf (e ∷ drop (suc i) (entries r)))
-  with-row e is = s .verdict ∙ ap (λ (es : List Entry). checkRecords (s .before) (recordsOf es)) (next-row r i l ∙ ap (λ (x : Entry). x ∷ drop (suc i) (entries r)) is)
+  with-row e is =
+      s .verdict
+      ∙ ap (λ (es : List Entry). checkRecords (s .before) (recordsOf es)) (next-row r i l ∙ ap (λ (x : Entry). x ∷ drop (suc i) (entries r)) is)
 
   fails : (f : Fault) → verdictOf r ≡ refused (numberOf f) (s .before) → IsFaulty (verdictOf r) f (p .at) i
   fails f v = record { before = s .before; refuses = v; offset-is = s .known .at-is; row-is = sym (s .many) }

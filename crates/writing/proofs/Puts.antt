@@ -17,7 +17,9 @@ use Rattle.writing.specs.Inner.Sizes.{sizeTo}
 use Rattle.writing.proofs.Entries.{length-body-at, length-record-at}
 use Rattle.writing.proofs.Sizes.{size-grows, body-few}
 
-pub record-wrote : (r : Rows) (i : ℕ) {size kind : ℕ} → size ≡ bodySize (rowAt r i) → kind ≡ kindAt r i → {before first second after : List ℕ} {at next body end : ℕ} →
+-- a row's record is written where the size of its body, its kind and its body are written
+pub record-wrote : (r : Rows) (i : ℕ) {size kind : ℕ} → size ≡ bodySize (rowAt r i) → kind ≡ kindAt r i →
+    {before first second after : List ℕ} {at next body end : ℕ} →
     Wrote before at (bytes 2 size) first next → Wrote first next (bytes 2 kind) second body → Wrote second body (bodyAt r i) after end →
     Wrote before at (recordAt r i) after end
 unfolding recordAt
@@ -30,7 +32,8 @@ pub record Stands (text after : List ℕ) (end : ℕ) : Type 0 where
   pub text-is : take end after ≡ text
   pub size : end ≡ length (take end after)
 
-pub body-stands : (r : Rows) (i : ℕ) {before after : List ℕ} {end : ℕ} → Wrote before 0 (bodyAt r i) after end → length before ≡ 19 → Stands (bodyAt r i) after end
+pub body-stands : (r : Rows) (i : ℕ) {before after : List ℕ} {end : ℕ} → Wrote before 0 (bodyAt r i) after end → length before ≡ 19 →
+    Stands (bodyAt r i) after end
 body-stands r i w e =
     let p = wrote-printed w (omega (arith, w .behind, length-body-at r i, body-few (kindAt r i), e)) in
     record { within = printed-within p; text-is = printed-text p; size = p .size ∙ ap length (sym (printed-text p)) }

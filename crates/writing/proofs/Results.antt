@@ -100,12 +100,13 @@ module _ (r : Rows) where
             let xs = clean .items in
             let is : result (entries r) (length before) ≡ acceptance xs = rw (accepts, le-leb (size xs) (length before) (rw (← (clean .size-is)) room)) in
             let output : after ≡ over (traceOf xs) before = e ∙ ap (λ (l : List ℕ). over l before) (all-records xs accepts) in
+            let front = ap (take (size xs)) output ∙ take-at (traceOf xs) _ (size xs) (length-trace xs) in
             record {
               answer-is = rw (clean .size-is) (ap told (sym is));
               output-is = output ∙ ap (λ (o : Result). outputAfter o before) (sym is);
               again = λ ys h.
                   let same : xs ≡ ys = items xs ys (sym is ∙ h) in
-                  rw (← same) (ap check (ap (take (size xs)) output ∙ take-at (traceOf xs) _ (size xs) (length-trace xs)) ∙ reads-what-was-written typed xs accepts);
+                  rw (← same) (ap check front ∙ reads-what-was-written typed xs accepts);
               counts = rw (output, length-append) (omega (arith, length-trace xs, clean .size-is));
             }
           where

@@ -29,7 +29,10 @@ noted-requires c κs = let d = c .before .before .before .before .before .before
     }
 
 returns : tie.Need-returns
-returns c = record { clean = rw (c .before .before .enum-told .given .1) at (c .before .before .before .before .record-fault .ensures); noted = c .noted .ensures }
+returns c = record {
+  clean = rw (c .before .before .enum-told .given .1) at (c .before .before .before .before .record-fault .ensures);
+  noted = c .noted .ensures;
+}
 
 returns-2 : tie.Need-returns-2
 returns-2 c = rw (c .before .finding .given .1) at (c .before .before .before .record-fault .ensures)

@@ -17,11 +17,11 @@ loop-holds : tie.Need-loop-holds Inv-loop μ-loop
 loop-holds c = put-start _ _ _
 
 put-record-requires : tie.Need-put-record-requires Inv-loop μ-loop
-put-record-requires c κs = let d = c .before .before .before .before .before .before .before in let l = c .before .loop-test .taken in
+put-record-requires c κs = let l = c .before .loop-test .taken in let d = c .before .before .before .before .before .before .before in
     (row-in _ _ (omega (arith, l, d .pre .0)), put-room _ _ _ (c .before .before .loop .inv) l (d .pre .1))
 
 loop-again : tie.Need-loop-again Inv-loop μ-loop
-loop-again c = put-more _ _ _ (c .before .before .before .before .before .loop .inv) (c .before .before .before .before .loop-test .taken) (c .before .before .put-record .ensures)
+loop-again c = let t = c .before .before .before .before in put-more _ _ _ (t .before .loop .inv) (t .loop-test .taken) (c .before .before .put-record .ensures)
 
 same-length : tie.Need-same-length Inv-loop μ-loop
 same-length c = c .before .loop .inv .size
