@@ -23,9 +23,6 @@ loop-holds : tie.Need-loop-holds Inv-loop μ-loop
 unfolding sizeTo
 loop-holds c = (omega arith, refl, omega arith)
 
-kind-at-requires : tie.Need-kind-at-requires Inv-loop μ-loop
-kind-at-requires c κs = let d = c .before .before .before in omega (arith, c .loop-test .taken, d .pre)
-
 -- the size of the record of row i, and of the rows up to it
 told-size : (c : tie.After-struct-known Inv-loop μ-loop) → c .before .kind-of .result .size ≡ bodySize (kindRow (c .before .before .kind-at .result))
 told-size c = ap (λ (k : Kind). k .size) (c .before .kind-of .ensures)
@@ -40,9 +37,6 @@ size-on c =
     let told : c .before .kind-of .result .size ≡ bodySize (kindRow (getD heads (2 * l .i) 0)) =
     told-size c ∙ ap (λ (k : ℕ). bodySize (kindRow k)) (c .before .before .kind-at .ensures) in
     omega (arith, more, told, l .inv .1)
-
-add-size : tie.Need-add-size Inv-loop μ-loop
-add-size c = record { fits = omega (arith, c .before .before .before .loop .inv .2) }
 
 add-size-2 : tie.Need-add-size-2 Inv-loop μ-loop
 add-size-2 c = record { fits = omega (arith, c .before .before .before .before .loop .inv .2, told-size c, body-few (c .before .before .kind-at .result)) }
@@ -71,9 +65,9 @@ too-long-spec =
     Inv-loop
     μ-loop
     loop-holds
-    kind-at-requires
     (λ c κs. search needs)
-    add-size
+    (λ c κs. search needs)
+    (λ c. search needs)
     add-size-2
     returns
     (λ c. search needs)

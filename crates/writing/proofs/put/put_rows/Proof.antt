@@ -23,9 +23,6 @@ put-record-requires c κs = let l = c .before .loop-test .taken in let d = c .be
 loop-again : tie.Need-loop-again Inv-loop μ-loop
 loop-again c = let t = c .before .before .before .before in put-more _ _ _ (t .before .loop .inv) (t .loop-test .taken) (c .before .before .put-record .ensures)
 
-same-length : tie.Need-same-length Inv-loop μ-loop
-same-length c = c .before .loop .inv .size
-
 returns : tie.Need-returns Inv-loop μ-loop
 returns c = put-done _ _ _ (c .before .loop .inv) (omega (arith, c .loop-test .left)) (c .before .before .before .before .before .before .pre .1)
 
@@ -40,5 +37,5 @@ put-rows-spec =
     (λ c. search needs)
     (λ c. search needs)
     loop-again
-    same-length
+    (λ c. search needs)
     returns)

@@ -15,14 +15,8 @@ abbrev μ-loop : tie.MeasureT-loop
 loop-holds : tie.Need-loop-holds Inv-loop μ-loop
 loop-holds c = spelling-start _ _ _ _
 
-put-byte-requires : tie.Need-put-byte-requires Inv-loop μ-loop
-put-byte-requires c κs = let s = c .before .before .loop .inv in omega (arith, s .size, s .next-is, c .before .loop-test .taken)
-
 loop-again : tie.Need-loop-again Inv-loop μ-loop
 loop-again c = let t = c .before .before .before .before in spelling-more (t .before .loop .inv) (t .loop-test .taken) (c .before .before .put-byte .ensures)
-
-same-length : tie.Need-same-length Inv-loop μ-loop
-same-length c = c .before .loop .inv .size
 
 returns : tie.Need-returns Inv-loop μ-loop
 returns c = spelling-done (c .before .loop .inv) (omega (arith, c .loop-test .left))
@@ -35,9 +29,9 @@ put-number-spec =
     μ-loop
     loop-holds
     (λ c. search needs)
-    put-byte-requires
+    (λ c κs. search needs)
     (λ c. search needs)
     (λ c. search needs)
     loop-again
-    same-length
+    (λ c. search needs)
     returns)
