@@ -44,6 +44,7 @@ unfolding decide
 decide-some zero before rest n = absurd (n refl)
 decide-some (suc m) before rest n = refl
 
+-- the rows before one are known to its body's check
 pub may-check : {r : Rows} {i : ℕ} {p : Progress} {marks : List ℕ} → Inside r i p marks → MayCheck p marks
 may-check {r} {i} s = record {
   before = s .before;
@@ -59,9 +60,11 @@ module _ {r : Rows} {i : ℕ} {p : Progress} {marks : List ℕ} (s : Inside r i 
       s .verdict
       ∙ ap (λ (es : List Entry). checkRecords (s .before) (recordsOf es)) (next-row r i l ∙ ap (λ (x : Entry). x ∷ drop (suc i) (entries r)) is)
 
+  -- a fault of row i is told with its offset and its row
   fails : (f : Fault) → verdictOf r ≡ refused (numberOf f) (s .before) → IsFaulty (verdictOf r) f (p .at) i
   fails f v = record { before = s .before; refuses = v; offset-is = s .known .at-is; row-is = sym (s .many) }
 
+  -- its kind is none; by its body a fault; or the rows behind it decide
   pub row-unknown : isRow (rowAt r i) ≡ false → IsFaulty (verdictOf r) Kind (p .at) i
   unfolding recordsOf checkRecords
   row-unknown is = fails Kind (with-row unknown (entry-unknown r i is))
@@ -92,6 +95,7 @@ module _ {r : Rows} {i : ℕ} {p : Progress} {marks : List ℕ} (s : Inside r i 
           verdict = rw (add-one i) (with-row (known x) (entry-known r i is) ∙ rw clean);
         }
 
+    -- what came of the row
     pub row-turn : (t : Turn) (marks′ : List ℕ) → BodyTurn (itemAt r i is) p marks t marks′ → RowTurn r i p t marks′
     row-turn (Fail f) marks′ found = row-faulty f found
     row-turn (Go p′) marks′ passes = row-passes passes
@@ -120,6 +124,7 @@ inside-start r short = record {
 }
 
 module _ {r : Rows} {i : ℕ} {p : Progress} {marks : List ℕ} (s : Inside r i p marks) (all : rowCount r ≤ i) where
+  -- no row is left
   at-end : verdictOf r ≡ ended (s .before)
   unfolding recordsOf checkRecords entries
   at-end = s .verdict ∙ ap (λ (es : List Entry). checkRecords (s .before) (recordsOf es))

@@ -24,6 +24,14 @@ use Rattle.writing.specs.Rows.{Rows, kindAt, cell, picked, known, unknow
 use Rattle.writing.specs.Writing.{entrySize}
 use Rattle.writing.specs.Inner.Records.{rowAt, fieldsAt, bodyAt, recordAt, Typed}
 
+-- each width is 1, 2 or 8
+abbrev isWidth : ℕ → Bool
+isWidth w = some (eqb w) (1 ∷ 2 ∷ 8 ∷ [])
+
+areWidths : List ℕ → Bool
+areWidths [] = true
+areWidths (w ∷ ws) = both (isWidth w) (areWidths ws)
+
 -- ---- lengths, whatever the kind
 pub length-picked : (cells : ℕ → ℕ → ℕ) (used : ℕ → ℕ) (widths : List ℕ) → length (picked cells used widths) ≡ length widths
 unfolding picked
@@ -40,14 +48,7 @@ module _ (r : Rows) (i : ℕ) where
   length-record-at = omega (arith, length-body-at)
 
 -- ---- numbers as wide as their slices fit their fields
--- each width is 1, 2 or 8
-abbrev isWidth : ℕ → Bool
-isWidth w = some (eqb w) (1 ∷ 2 ∷ 8 ∷ [])
-
-areWidths : List ℕ → Bool
-areWidths [] = true
-areWidths (w ∷ ws) = both (isWidth w) (areWidths ws)
-
+-- the table has no other
 rows-widths : All (λ (row : Row). areWidths (row .widths) ≡ true) rows
 unfolding rows areWidths some
 rows-widths = cons refl (cons refl (cons refl (cons refl (cons refl nil))))
@@ -77,10 +78,12 @@ module _ (r : Rows) (i : ℕ) (is : isRow (rowAt r i) ≡ true) where
   abbrev pub itemAt : Item
   itemAt = rowAt r i .make (fieldsAt r i)
 
+  -- the row says its item
   pub entry-known : entry r i ≡ known itemAt
   unfolding entry entryOf
   entry-known = rw is
 
+  -- the item's row of the table, its fields, and so its bytes and its size
   pub parts-at : partsOf itemAt ≡ record { row = rowAt r i; fields = fieldsAt r i }
   parts-at = kind-right (kindAt r i) is .back (fieldsAt r i) (length-picked (cell r i) (λ width. zero) (rowAt r i .widths))
 

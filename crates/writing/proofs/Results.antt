@@ -27,6 +27,7 @@ use Rattle.writing.specs.Inner.Checked.{verdictOf, IsClean, IsFaulty}
 use Rattle.writing.proofs.Lists.{accepted-list, reads-what-was-written, records-are}
 use Rattle.writing.proofs.Sizes.{size-is}
 
+-- the count that the code computes
 pub count-is : (r : Rows) → min (length (r .heads) / 2) (min (length (r .bytes) / 10) (length (r .words) / 8)) ≡ rowCount r
 unfolding rowCount
 count-is r = refl
@@ -37,6 +38,7 @@ unfolding rowCount
 heads-room r = omega arith
 
 module _ (r : Rows) where
+  -- the size by the kinds is the size of the list
   list-size : sizeTo (r .heads) (rowCount r) ≡ listSize (entries r)
   unfolding entries
   list-size = size-is r (rowCount r)
@@ -69,6 +71,7 @@ module _ (r : Rows) where
       counts = omega arith;
     }
 
+    -- 10; then the number of the first faulty row
     pub refuses-long : IsTooLong (r .heads) (rowCount r) true → Promised r before (record { refusal = 10; offset = 0; row = 0; len = 0 }) before
     unfolding result toldBy checkList size count
     refuses-long e = refuses 10 0 0 (rw (too-long-is true e))
@@ -93,6 +96,7 @@ module _ (r : Rows) where
         pub records-long : length (recordsTo r (rowCount r)) ≡ n
         records-long = ap length (all-records (clean .items) accepts) ∙ length-trace (clean .items) ∙ sym (clean .size-is)
 
+        -- the records stand at the start of the output, and reading them gives the items
         pub writes : Typed r → n ≤ length before → (after : List ℕ) → after ≡ over (recordsTo r (rowCount r)) before →
             Promised r before (record { refusal = 0; offset = 0; row = 0; len = n }) after
         unfolding result toldBy outputAfter

@@ -21,6 +21,7 @@ use Rattle.writing.specs.Inner.Sizes.{sizeTo}
 use Rattle.writing.proofs.Entries.{entry-size}
 use Rattle.writing.proofs.Lists.{size-append}
 
+-- one row more; no fewer bytes with more rows; and the size of the list that the rows say
 pub size-more : (heads : List ℕ) (i : ℕ) → sizeTo heads (i + 1) ≡ sizeTo heads i + (4 + bodySize (kindRow (getD heads (2 * i) 0)))
 unfolding sizeTo
 size-more heads i = rw (add-one i)

@@ -19,6 +19,7 @@ lent c = let a = c .before .before .before .before .before .args in rows (now (a
 n-is : (c : tie.After-row-count) → c .row-count .result ≡ rowCount (lent c)
 n-is c = c .row-count .ensures ∙ count-is (lent c)
 
+-- the numbers are as wide as their slices have them
 typed : (c : tie.After-row-count) → Typed (lent c)
 typed c = record {
   heads-low = λ j. c .before .before .before .before .shared-slice-known .given j .fits;

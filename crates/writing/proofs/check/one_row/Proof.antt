@@ -17,10 +17,11 @@ use Rattle.writing.proofs.Checks.{may-check, row-unknown, row-turn}
 use Rattle.writing.proofs.check.one_row.Statement.{statement}
 use Rattle.writing.proofs.check.one_row.Tie as tie
 
--- the rows that are lent, and the row's place
+-- the rows that are lent
 abbrev lent : tie.Start → Rows
 lent d = rows (now (d .args .heads)) (now (d .args .bytes)) (now (d .args .words))
 
+-- the section that is told of the kind is the table's
 section-is : (c : tie.After-kind-of) → let d = c .before .before .before .before .before in c .kind-of .result .section ≡ rowAt (lent d) (d .args .i) .section
 section-is c = ap (λ (k : Kind). k .section) (c .kind-of .ensures) ∙ ap (λ (k : ℕ). kindRow k .section) (c .before .kind-at .ensures)
 
@@ -28,6 +29,7 @@ section-is c = ap (λ (k : Kind). k .section) (c .kind-of .ensures) ∙ ap (λ (
 row-there : (c : tie.Else1) → let d = c .before .before .before .before .before .before .before in isRow (rowAt (lent d) (d .args .i)) ≡ true
 row-there c = ap not (ne-eqb _ 0 (λ e. c .if1 .left (section-is (c .before .before) ∙ e)))
 
+-- the numbers are as wide as their slices have them
 typed : (c : tie.After-kind-at) → Typed (lent (c .before .before .before .before))
 typed c = record {
   heads-low = λ j. c .before .before .before .shared-slice-known .given j .fits;

@@ -24,6 +24,7 @@ lent c = let a = c .before .before .before .before .before .args in rows (now (a
 abbrev place : tie.After-kind-at → ℕ
 place c = c .before .before .before .before .before .args .i
 
+-- the size that is told of the kind is the table's
 size-is : (c : tie.After-kind-of) → c .kind-of .result .size ≡ bodySize (rowAt (lent (c .before)) (place (c .before)))
 size-is c = ap (λ (k : Kind). k .size) (c .kind-of .ensures) ∙ ap (λ k. bodySize (kindRow k)) (c .before .kind-at .ensures)
 
