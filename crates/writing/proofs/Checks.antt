@@ -53,12 +53,15 @@ may-check {r} {i} s = record {
   at-low = omega (arith, s .known .at-is, s .sizes, s .short);
 }
 
+-- the rows from i on decide, whatever is known of them
+decides : {r : Rows} {i : ℕ} {p : Progress} {marks : List ℕ} (s : Inside r i p marks) {es : List Entry} → drop i (entries r) ≡ es →
+    verdictOf r ≡ checkRecords (s .before) (recordsOf es)
+decides s e = s .verdict ∙ ap (λ (es : List Entry). checkRecords (s .before) (recordsOf es)) e
+
 module _ {r : Rows} {i : ℕ} {p : Progress} {marks : List ℕ} (s : Inside r i p marks) (l : i < rowCount r) where
   -- what row i and the rest decide
   with-row : (e : Entry) → entry r i ≡ e → verdictOf r ≡ checkRecords (s .before) (recordsOf (e ∷ drop (suc i) (entries r)))
-  with-row e is =
-      s .verdict
-      ∙ ap (λ (es : List Entry). checkRecords (s .before) (recordsOf es)) (next-row r i l ∙ ap (λ (x : Entry). x ∷ drop (suc i) (entries r)) is)
+  with-row e is = decides s (next-row r i l ∙ ap (λ (x : Entry). x ∷ drop (suc i) (entries r)) is)
 
   -- a fault of row i is told with its offset and its row
   fails : (f : Fault) → verdictOf r ≡ refused (numberOf f) (s .before) → IsFaulty (verdictOf r) f (p .at) i
@@ -127,8 +130,8 @@ module _ {r : Rows} {i : ℕ} {p : Progress} {marks : List ℕ} (s : Inside r i 
   -- no row is left
   at-end : verdictOf r ≡ ended (s .before)
   unfolding recordsOf checkRecords entries
-  at-end = s .verdict ∙ ap (λ (es : List Entry). checkRecords (s .before) (recordsOf es))
-      (drop-of-length-le (listBelow (rowCount r) (entry r)) {i = i} (omega (arith, length-below (rowCount r) (entry r))))
+  at-end =
+      decides s (drop-of-length-le (listBelow (rowCount r) (entry r)) {i = i} (omega (arith, length-below (rowCount r) (entry r))))
 
   pub ends-empty : i ≡ 0 → IsFaulty (verdictOf r) Order 0 0
   unfolding ended count size

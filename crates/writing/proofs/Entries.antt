@@ -39,9 +39,12 @@ length-picked cells used [] = refl
 length-picked cells used (w ∷ ws) = ap suc (length-picked cells (update used w (suc (used w))) ws)
 
 module _ (r : Rows) (i : ℕ) where
+  length-fields : length (fieldsAt r i) ≡ length (rowAt r i .widths)
+  length-fields = length-picked (cell r i) (λ width. zero) (rowAt r i .widths)
+
   pub length-body-at : length (bodyAt r i) ≡ bodySize (rowAt r i)
   unfolding bodyAt
-  length-body-at = length-field-bytes (rowAt r i .widths) (fieldsAt r i) (length-picked (cell r i) (λ width. zero) (rowAt r i .widths))
+  length-body-at = length-field-bytes (rowAt r i .widths) (fieldsAt r i) length-fields
 
   pub length-record-at : length (recordAt r i) ≡ 4 + bodySize (rowAt r i)
   unfolding recordAt bytes
@@ -85,7 +88,7 @@ module _ (r : Rows) (i : ℕ) (is : isRow (rowAt r i) ≡ true) where
 
   -- the item's row of the table, its fields, and so its bytes and its size
   pub parts-at : partsOf itemAt ≡ record { row = rowAt r i; fields = fieldsAt r i }
-  parts-at = kind-right (kindAt r i) is .back (fieldsAt r i) (length-picked (cell r i) (λ width. zero) (rowAt r i .widths))
+  parts-at = kind-right (kindAt r i) is .back (fieldsAt r i) (length-fields r i)
 
   pub row-at : rowOf itemAt ≡ rowAt r i
   row-at = ap (λ (p : Parts). p .row) parts-at

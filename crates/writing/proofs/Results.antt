@@ -62,7 +62,7 @@ module _ (r : Rows) where
   module _ (before : List ℕ) where
     -- ---- a refusal: the output stays
     refuses : (number offset row : ℕ) → result (entries r) (length before) ≡ refusal number offset row →
-        Promised r before (record { refusal = number; offset = offset; row = row; len = 0 }) before
+        Promised r before (told (refusal number offset row)) before
     unfolding outputAfter
     refuses number offset row e = record {
       answer-is = ap told (sym e);
@@ -72,13 +72,13 @@ module _ (r : Rows) where
     }
 
     -- 10; then the number of the first faulty row
-    pub refuses-long : IsTooLong (r .heads) (rowCount r) true → Promised r before (record { refusal = 10; offset = 0; row = 0; len = 0 }) before
+    pub refuses-long : IsTooLong (r .heads) (rowCount r) true → Promised r before (told (refusal 10 0 0)) before
     unfolding result toldBy checkList size count
     refuses-long e = refuses 10 0 0 (rw (too-long-is true e))
 
     module _ (fits : IsTooLong (r .heads) (rowCount r) false) where
       pub refuses-row : (f : Fault) (offset row : ℕ) → IsFaulty (verdictOf r) f offset row →
-          Promised r before (record { refusal = numberOf f; offset = offset; row = row; len = 0 }) before
+          Promised r before (told (refusal (numberOf f) offset row)) before
       unfolding result toldBy
       refuses-row f offset row faulty =
           refuses (numberOf f) offset row (rw (rows-decide fits ∙ faulty .refuses, faulty .offset-is, faulty .row-is))
@@ -88,7 +88,7 @@ module _ (r : Rows) where
         accepts = rows-decide fits ∙ clean .accepts
 
         -- 12, where the output is too short
-        pub refuses-short : length before < n → Promised r before (record { refusal = 12; offset = 0; row = 0; len = 0 }) before
+        pub refuses-short : length before < n → Promised r before (told (refusal 12 0 0)) before
         unfolding result toldBy
         refuses-short low = refuses 12 0 0 (rw (accepts, lt-leb (size (clean .items)) (length before) (rw (← (clean .size-is)) low)))
 
