@@ -34,12 +34,14 @@ module _ {r : Rows} {i : ℕ} (typed : Typed r) (inside : RowIn r i) where
   unfolding bytes
   single j = rw (mod-eq-of-lt {n = getD (r .bytes) (10 * i + j) 0} {m = 256} (typed .bytes-low (10 * i + j)))
 
+  -- the first fields of one byte
   three : bytes 1 (getD (r .bytes) (10 * i + 0) 0) ++ (bytes 1 (getD (r .bytes) (10 * i + 1) 0) ++ bytes 1 (getD (r .bytes) (10 * i + 2) 0)) ≡ ones 3
   three = rw (single 0, single 1, single 2) (sym (three-of (r .bytes) (10 * i) (omega (arith, inside .bytes-in))))
 
   one : bytes 1 (getD (r .bytes) (10 * i + 0) 0) ≡ ones 1
   one = single 0 ∙ sym (one-of (r .bytes) (10 * i) (omega (arith, inside .bytes-in)))
 
+  -- ---- kind by kind
   pub body-shape : kindAt r i ≡ 1 → bodyAt r i ≡ ones 3
   unfolding bodyAt rows firstRow kindRow picked cell update fieldBytes
   body-shape k = rw (k, append-nil) three

@@ -1,4 +1,4 @@
--- Numbers in bytes, byte by byte, and the bytes of each kind's body.
+-- Numbers in bytes, byte by byte, and the room behind what was written.
 use Prim.Native.Nat.{ℕ, suc, _+_, _-_, _/_, _%_, _≤_, _<_}
 use mathlib.Core.Path.{_≡_, refl, ap, sym, _∙_}
 use mathlib.Core.List.{List, [], _∷_, _++_, append-assoc, append-nil}
@@ -18,6 +18,7 @@ pub record Spelling (out₀ : List ℕ) (at count v : ℕ) (out : List ℕ) (nex
   pub size : length out ≡ length out₀
   pub next-is : next ≡ at + i
 
+-- none of them yet; one more; all
 pub spelling-start : (out : List ℕ) (at count v : ℕ) → Spelling out at count v out at v 0
 spelling-start out at count v =
     let all : count - 0 ≡ count = omega arith in

@@ -1,23 +1,23 @@
 -- The rows checked one by one: what each says, and what the rest then decides.
-use Prim.Native.Nat.{ℕ, zero, suc, _+_, _*_, _≤_, _<_}
-use mathlib.Core.Path.{_≡_, refl, ap, sym, _∙_, subst}
+use Prim.Native.Nat.{ℕ, zero, suc, _+_, _≤_, _<_}
+use mathlib.Core.Path.{_≡_, refl, ap, sym, _∙_}
 use mathlib.Core.Logic.{_≢_}
 use mathlib.Core.Bool.{true, false}
-use mathlib.Core.List.{List, [], _∷_}
+use mathlib.Core.List.{List, _∷_}
 use native.Mathlib.Numerals.{add-one}
 use native.Mathlib.Omega.{arith}
-use lib.ListN.{length, drop, replicate, length-replicate, getD-replicate, drop-of-length-le}
+use lib.ListN.{drop, replicate, length-replicate, getD-replicate, drop-of-length-le}
 use lib.Seq.{drop-cons}
 use Rattle.lists.specs.Search.{some}
 use Rattle.lists.specs.Table.{listBelow}
 use Rattle.lists.proofs.Below.{length-below, getD-below}
-use Rattle.trace.specs.Item.{Item, Items, none, after, request}
+use Rattle.trace.specs.Item.{Items, none, after}
 use Rattle.trace.specs.Table.{isRow, recordSize, size}
 use Rattle.trace.specs.Contents.{contents, lastSection, actsAt}
 use Rattle.trace.specs.Refusals.{fault}
-use Rattle.trace.specs.Check.{Verdict, refused, accepted, ended, decide, checkRecords}
+use Rattle.trace.specs.Check.{Verdict, refused, ended, decide, checkRecords}
 use Rattle.trace.specs.Answers.{numberOf}
-use Rattle.trace.specs.Inner.Known.{Known, RecordFault, Room, Noted, requestIn, begun}
+use Rattle.trace.specs.Inner.Known.{RecordFault, begun}
 use Rattle.trace.specs.declared.Fault.{Fault}
 use Rattle.trace.specs.declared.Fault.the-variants.{Kind, Order}
 use Rattle.trace.specs.declared.progress.Progress.{Progress}
@@ -44,6 +44,7 @@ unfolding decide
 decide-some zero before rest n = absurd (n refl)
 decide-some (suc m) before rest n = refl
 
+-- the rows before one are known to its body's check
 pub may-check : {r : Rows} {i : ℕ} {p : Progress} {marks : List ℕ} → Inside r i p marks → MayCheck p marks
 may-check {r} {i} s = record {
   before = s .before;
@@ -52,14 +53,21 @@ may-check {r} {i} s = record {
   at-low = omega (arith, s .known .at-is, s .sizes, s .short);
 }
 
+-- the rows from i on decide, whatever is known of them
+decides : {r : Rows} {i : ℕ} {p : Progress} {marks : List ℕ} (s : Inside r i p marks) {es : List Entry} → drop i (entries r) ≡ es →
+    verdictOf r ≡ checkRecords (s .before) (recordsOf es)
+decides s e = s .verdict ∙ ap (λ (es : List Entry). checkRecords (s .before) (recordsOf es)) e
+
 module _ {r : Rows} {i : ℕ} {p : Progress} {marks : List ℕ} (s : Inside r i p marks) (l : i < rowCount r) where
   -- what row i and the rest decide
   with-row : (e : Entry) → entry r i ≡ e → verdictOf r ≡ checkRecords (s .before) (recordsOf (e ∷ drop (suc i) (entries r)))
-  with-row e is = s .verdict ∙ ap (λ (es : List Entry). checkRecords (s .before) (recordsOf es)) (next-row r i l ∙ ap (λ (x : Entry). x ∷ drop (suc i) (entries r)) is)
+  with-row e is = decides s (next-row r i l ∙ ap (λ (x : Entry). x ∷ drop (suc i) (entries r)) is)
 
+  -- a fault of row i is told with its offset and its row
   fails : (f : Fault) → verdictOf r ≡ refused (numberOf f) (s .before) → IsFaulty (verdictOf r) f (p .at) i
   fails f v = record { before = s .before; refuses = v; offset-is = s .known .at-is; row-is = sym (s .many) }
 
+  -- its kind is none; by its body a fault; or the rows behind it decide
   pub row-unknown : isRow (rowAt r i) ≡ false → IsFaulty (verdictOf r) Kind (p .at) i
   unfolding recordsOf checkRecords
   row-unknown is = fails Kind (with-row unknown (entry-unknown r i is))
@@ -90,6 +98,7 @@ module _ {r : Rows} {i : ℕ} {p : Progress} {marks : List ℕ} (s : Inside r i 
           verdict = rw (add-one i) (with-row (known x) (entry-known r i is) ∙ rw clean);
         }
 
+    -- what came of the row
     pub row-turn : (t : Turn) (marks′ : List ℕ) → BodyTurn (itemAt r i is) p marks t marks′ → RowTurn r i p t marks′
     row-turn (Fail f) marks′ found = row-faulty f found
     row-turn (Go p′) marks′ passes = row-passes passes
@@ -118,10 +127,11 @@ inside-start r short = record {
 }
 
 module _ {r : Rows} {i : ℕ} {p : Progress} {marks : List ℕ} (s : Inside r i p marks) (all : rowCount r ≤ i) where
+  -- no row is left
   at-end : verdictOf r ≡ ended (s .before)
   unfolding recordsOf checkRecords entries
-  at-end = s .verdict ∙ ap (λ (es : List Entry). checkRecords (s .before) (recordsOf es))
-      (drop-of-length-le (listBelow (rowCount r) (entry r)) {i = i} (omega (arith, length-below (rowCount r) (entry r))))
+  at-end =
+      decides s (drop-of-length-le (listBelow (rowCount r) (entry r)) {i = i} (omega (arith, length-below (rowCount r) (entry r))))
 
   pub ends-empty : i ≡ 0 → IsFaulty (verdictOf r) Order 0 0
   unfolding ended count size

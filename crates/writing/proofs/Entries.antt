@@ -1,11 +1,10 @@
 -- What a row says, and the bytes of its record.
-use Prim.Native.Nat.{ℕ, zero, suc, _+_, _*_, _≤_, _<_, _^_}
+use Prim.Native.Nat.{ℕ, zero, suc, _+_, _*_, _<_, _^_}
 use mathlib.Core.Path.{_≡_, refl, ap, sym, _∙_, subst}
-use mathlib.Core.Logic.{_⊎_, inl, inr}
 use mathlib.Core.Bool.{Bool, true, false}
 use mathlib.Core.List.{List, [], _∷_, _++_}
 use native.Mathlib.Omega.{arith}
-use lib.ListN.{length, getD, length-append}
+use lib.ListN.{length, getD}
 use lib.Dec.{eqb}
 use borrow.Author.Tests.{eqb-true}
 use Rattle.lists.specs.Choice.{choose, both}
@@ -14,34 +13,17 @@ use Rattle.lists.specs.Search.{some, All, nil, cons}
 use Rattle.lists.proofs.Tests.{both-true, clash}
 use Rattle.trace.specs.Bytes.{total}
 use Rattle.trace.specs.Item.{Item}
-use Rattle.trace.specs.Table.{Row, rows, bodySize, isRow, kindRow, bodyRow, item, Parts, partsOf, rowOf, recordSize}
+use Rattle.trace.specs.Table.{Row, rows, bodySize, isRow, bodyRow, item, Parts, partsOf, rowOf, recordSize}
 use Rattle.trace.specs.Write.{bytes, fieldBytes, recordOf}
 use Rattle.trace.specs.Inner.Fits.{FieldsFit, no-field, field-fits, FitsBytes}
 use Rattle.trace.specs.Inner.Known.{Bodied}
 use Rattle.trace.proofs.Fields.{length-field-bytes}
-use Rattle.trace.proofs.Numbers.{length-bytes}
 use Rattle.trace.proofs.Table.{kind-all, kind-right, kind-found, kind-none}
-use Rattle.trace.proofs.Written.{bodyOf, length-body, item-body}
-use Rattle.writing.specs.Rows.{Rows, kindAt, cell, picked, Entry, known, unknown, entryOf, entry}
+use Rattle.trace.proofs.Written.{bodyOf, item-body}
+use Rattle.writing.specs.Rows.{Rows, kindAt, cell, picked, known, unknown, entryOf, entry}
 use Rattle.writing.specs.Writing.{entrySize}
 use Rattle.writing.specs.Inner.Records.{rowAt, fieldsAt, bodyAt, recordAt, Typed}
 
--- ---- lengths, whatever the kind
-pub length-picked : (cells : ℕ → ℕ → ℕ) (used : ℕ → ℕ) (widths : List ℕ) → length (picked cells used widths) ≡ length widths
-unfolding picked
-length-picked cells used [] = refl
-length-picked cells used (w ∷ ws) = ap suc (length-picked cells (update used w (suc (used w))) ws)
-
-module _ (r : Rows) (i : ℕ) where
-  pub length-body-at : length (bodyAt r i) ≡ bodySize (rowAt r i)
-  unfolding bodyAt
-  length-body-at = length-field-bytes (rowAt r i .widths) (fieldsAt r i) (length-picked (cell r i) (λ width. zero) (rowAt r i .widths))
-
-  pub length-record-at : length (recordAt r i) ≡ 4 + bodySize (rowAt r i)
-  unfolding recordAt bytes
-  length-record-at = omega (arith, length-body-at)
-
--- ---- numbers as wide as their slices fit their fields
 -- each width is 1, 2 or 8
 abbrev isWidth : ℕ → Bool
 isWidth w = some (eqb w) (1 ∷ 2 ∷ 8 ∷ [])
@@ -50,6 +32,26 @@ areWidths : List ℕ → Bool
 areWidths [] = true
 areWidths (w ∷ ws) = both (isWidth w) (areWidths ws)
 
+-- ---- lengths, whatever the kind
+pub length-picked : (cells : ℕ → ℕ → ℕ) (used : ℕ → ℕ) (widths : List ℕ) → length (picked cells used widths) ≡ length widths
+unfolding picked
+length-picked cells used [] = refl
+length-picked cells used (w ∷ ws) = ap suc (length-picked cells (update used w (suc (used w))) ws)
+
+module _ (r : Rows) (i : ℕ) where
+  length-fields : length (fieldsAt r i) ≡ length (rowAt r i .widths)
+  length-fields = length-picked (cell r i) (λ width. zero) (rowAt r i .widths)
+
+  pub length-body-at : length (bodyAt r i) ≡ bodySize (rowAt r i)
+  unfolding bodyAt
+  length-body-at = length-field-bytes (rowAt r i .widths) (fieldsAt r i) length-fields
+
+  pub length-record-at : length (recordAt r i) ≡ 4 + bodySize (rowAt r i)
+  unfolding recordAt bytes
+  length-record-at = omega (arith, length-body-at)
+
+-- ---- numbers as wide as their slices fit their fields
+-- the table has no other
 rows-widths : All (λ (row : Row). areWidths (row .widths) ≡ true) rows
 unfolding rows areWidths some
 rows-widths = cons refl (cons refl (cons refl (cons refl (cons refl nil))))
@@ -79,12 +81,14 @@ module _ (r : Rows) (i : ℕ) (is : isRow (rowAt r i) ≡ true) where
   abbrev pub itemAt : Item
   itemAt = rowAt r i .make (fieldsAt r i)
 
+  -- the row says its item
   pub entry-known : entry r i ≡ known itemAt
   unfolding entry entryOf
   entry-known = rw is
 
+  -- the item's row of the table, its fields, and so its bytes and its size
   pub parts-at : partsOf itemAt ≡ record { row = rowAt r i; fields = fieldsAt r i }
-  parts-at = kind-right (kindAt r i) is .back (fieldsAt r i) (length-picked (cell r i) (λ width. zero) (rowAt r i .widths))
+  parts-at = kind-right (kindAt r i) is .back (fieldsAt r i) (length-fields r i)
 
   pub row-at : rowOf itemAt ≡ rowAt r i
   row-at = ap (λ (p : Parts). p .row) parts-at

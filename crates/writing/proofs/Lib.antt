@@ -7,3 +7,4 @@ pub mod Sizes
 pub mod Puts
 pub mod Checks
 pub mod Results
+pub mod Examples

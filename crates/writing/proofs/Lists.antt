@@ -9,17 +9,17 @@ use lib.Dec.{ltb}
 use borrow.Author.Tests.{le-leb}
 use Rattle.lists.specs.Choice.{choose}
 use Rattle.lists.specs.Table.{listBelow}
-use Rattle.lists.specs.Search.{All, nil, cons}
+use Rattle.lists.specs.Search.{All, nil}
 use Rattle.lists.proofs.Tests.{clash}
 use Rattle.lists.proofs.Every.{all-left, all-right, all-head, all-more}
 use Rattle.lists.proofs.Below.{all-below}
 use Rattle.trace.specs.Bytes.{AreBytes}
-use Rattle.trace.specs.Item.{Item, Items, none, after}
-use Rattle.trace.specs.Table.{isRow, recordSize, size}
+use Rattle.trace.specs.Item.{Items, none, after}
+use Rattle.trace.specs.Table.{isRow, size}
 use Rattle.trace.specs.Write.{recordOf, traceOf}
 use Rattle.trace.specs.Records.{Records, next, records, recordsUpTo}
 use Rattle.trace.specs.Refusals.{fault}
-use Rattle.trace.specs.Check.{Verdict, refused, accepted, ended, decide, checkRecords, check}
+use Rattle.trace.specs.Check.{refused, accepted, ended, decide, checkRecords, check}
 use Rattle.trace.specs.Inner.Fits.{FitsBytes, AllFitBytes, none-fit, after-fit}
 use Rattle.trace.proofs.Written.{records-written}
 use Rattle.trace.proofs.Accept.{accepted-is, length-trace, written-again}
@@ -33,12 +33,31 @@ unfoldable pub listOf : Items → List Entry
 listOf none = []
 listOf (after before x) = listOf before ++ (known x ∷ [])
 
--- ---- the same records, in the list and in its bytes
 -- items in front of records
 inFront : Items → Records → Records
 inFront none rest = rest
 inFront (after before x) rest = inFront before (next x rest)
 
+-- where an entry is an item, its numbers fit their fields
+abbrev Fitting : Entry → Type 0
+Fitting (known x) = FitsBytes x
+Fitting unknown = Unit {0}
+
+-- an entry is an item
+abbrev IsKnown : Entry → Type 0
+IsKnown (known x) = Unit {0}
+IsKnown unknown = ⊥
+
+-- the bytes of an entry's record, and of all records of a list
+entryBytes : Entry → List ℕ
+entryBytes (known x) = recordOf x
+entryBytes unknown = []
+
+listBytes : List Entry → List ℕ
+listBytes [] = []
+listBytes (e ∷ es) = entryBytes e ++ listBytes es
+
+-- ---- the same records, in the list and in its bytes
 records-of-list : (xs : Items) (es : List Entry) → recordsOf (listOf xs ++ es) ≡ inFront xs (recordsOf es)
 unfolding listOf inFront recordsOf
 records-of-list none es = refl
@@ -104,6 +123,7 @@ accepted-from (known x ∷ es) before xs h = go (fault before x) h (accepted-fro
     go zero g on = sym (append-assoc (listOf before) (known x ∷ []) es) ∙ on g
     go (suc n) g on = clash (cc)
 
+-- the whole list
 pub accepted-list : (es : List Entry) (xs : Items) → checkList es ≡ accepted xs → es ≡ listOf xs
 unfolding checkList listOf
 accepted-list es xs h = go (ltb 65536 (listSize es)) h
@@ -112,11 +132,7 @@ accepted-list es xs h = go (ltb 65536 (listSize es)) h
     go true g = clash (cc)
     go false g = accepted-from es none xs g
 
--- ---- rows
-abbrev Fitting : Entry → Type 0
-Fitting (known x) = FitsBytes x
-Fitting unknown = Unit {0}
-
+-- ---- rows: the numbers of each are as wide as their slices
 entry-fits : {r : Rows} → Typed r → (i : ℕ) → Fitting (entry r i)
 entry-fits {r} typed i = go (isRow (rowAt r i)) refl
   where
@@ -140,19 +156,7 @@ reads-what-was-written {r} typed xs e =
     let same = accepted-list (entries r) xs e in
     sym (told-same xs (rows-fit typed xs same)) ∙ (rw same at e)
 
--- ---- the bytes
-abbrev IsKnown : Entry → Type 0
-IsKnown (known x) = Unit {0}
-IsKnown unknown = ⊥
-
-entryBytes : Entry → List ℕ
-entryBytes (known x) = recordOf x
-entryBytes unknown = []
-
-listBytes : List Entry → List ℕ
-listBytes [] = []
-listBytes (e ∷ es) = entryBytes e ++ listBytes es
-
+-- ---- the bytes: the records of rows that are items are those of the items
 bytes-append : (es fs : List Entry) → listBytes (es ++ fs) ≡ listBytes es ++ listBytes fs
 unfolding listBytes
 bytes-append [] fs = refl

@@ -10,14 +10,14 @@ use lib.Dec.{ltb}
 use borrow.Author.Tests.{ltb-false, le-leb, lt-leb}
 use Rattle.lists.specs.Over.{over}
 use Rattle.lists.proofs.Tests.{clash}
-use Rattle.trace.specs.Item.{Items, none}
+use Rattle.trace.specs.Item.{Items}
 use Rattle.trace.specs.Table.{size}
 use Rattle.trace.specs.Write.{traceOf}
-use Rattle.trace.specs.Check.{refused, accepted, check}
+use Rattle.trace.specs.Check.{accepted, check}
 use Rattle.trace.specs.Answers.{numberOf}
 use Rattle.trace.specs.declared.Fault.{Fault}
 use Rattle.trace.proofs.Accept.{length-trace}
-use Rattle.writing.specs.Rows.{Rows, rowCount, entry, entries}
+use Rattle.writing.specs.Rows.{Rows, rowCount, entries}
 use Rattle.writing.specs.Writing.{listSize, checkList, Result, refusal, acceptance, count, toldBy, result, outputAfter, told}
 use Rattle.writing.specs.Promise.{Promised}
 use Rattle.writing.specs.declared.Written.{Written}
@@ -26,8 +26,8 @@ use Rattle.writing.specs.Inner.Sizes.{sizeTo, IsTooLong}
 use Rattle.writing.specs.Inner.Checked.{verdictOf, IsClean, IsFaulty}
 use Rattle.writing.proofs.Lists.{accepted-list, reads-what-was-written, records-are}
 use Rattle.writing.proofs.Sizes.{size-is}
-use Rattle.writing.proofs.Puts.{length-records}
 
+-- the count that the code computes
 pub count-is : (r : Rows) → min (length (r .heads) / 2) (min (length (r .bytes) / 10) (length (r .words) / 8)) ≡ rowCount r
 unfolding rowCount
 count-is r = refl
@@ -38,6 +38,7 @@ unfolding rowCount
 heads-room r = omega arith
 
 module _ (r : Rows) where
+  -- the size by the kinds is the size of the list
   list-size : sizeTo (r .heads) (rowCount r) ≡ listSize (entries r)
   unfolding entries
   list-size = size-is r (rowCount r)
@@ -61,7 +62,7 @@ module _ (r : Rows) where
   module _ (before : List ℕ) where
     -- ---- a refusal: the output stays
     refuses : (number offset row : ℕ) → result (entries r) (length before) ≡ refusal number offset row →
-        Promised r before (record { refusal = number; offset = offset; row = row; len = 0 }) before
+        Promised r before (told (refusal number offset row)) before
     unfolding outputAfter
     refuses number offset row e = record {
       answer-is = ap told (sym e);
@@ -70,13 +71,14 @@ module _ (r : Rows) where
       counts = omega arith;
     }
 
-    pub refuses-long : IsTooLong (r .heads) (rowCount r) true → Promised r before (record { refusal = 10; offset = 0; row = 0; len = 0 }) before
+    -- 10; then the number of the first faulty row
+    pub refuses-long : IsTooLong (r .heads) (rowCount r) true → Promised r before (told (refusal 10 0 0)) before
     unfolding result toldBy checkList size count
     refuses-long e = refuses 10 0 0 (rw (too-long-is true e))
 
     module _ (fits : IsTooLong (r .heads) (rowCount r) false) where
       pub refuses-row : (f : Fault) (offset row : ℕ) → IsFaulty (verdictOf r) f offset row →
-          Promised r before (record { refusal = numberOf f; offset = offset; row = row; len = 0 }) before
+          Promised r before (told (refusal (numberOf f) offset row)) before
       unfolding result toldBy
       refuses-row f offset row faulty =
           refuses (numberOf f) offset row (rw (rows-decide fits ∙ faulty .refuses, faulty .offset-is, faulty .row-is))
@@ -86,7 +88,7 @@ module _ (r : Rows) where
         accepts = rows-decide fits ∙ clean .accepts
 
         -- 12, where the output is too short
-        pub refuses-short : length before < n → Promised r before (record { refusal = 12; offset = 0; row = 0; len = 0 }) before
+        pub refuses-short : length before < n → Promised r before (told (refusal 12 0 0)) before
         unfolding result toldBy
         refuses-short low = refuses 12 0 0 (rw (accepts, lt-leb (size (clean .items)) (length before) (rw (← (clean .size-is)) low)))
 
@@ -94,6 +96,7 @@ module _ (r : Rows) where
         pub records-long : length (recordsTo r (rowCount r)) ≡ n
         records-long = ap length (all-records (clean .items) accepts) ∙ length-trace (clean .items) ∙ sym (clean .size-is)
 
+        -- the records stand at the start of the output, and reading them gives the items
         pub writes : Typed r → n ≤ length before → (after : List ℕ) → after ≡ over (recordsTo r (rowCount r)) before →
             Promised r before (record { refusal = 0; offset = 0; row = 0; len = n }) after
         unfolding result toldBy outputAfter
@@ -101,12 +104,13 @@ module _ (r : Rows) where
             let xs = clean .items in
             let is : result (entries r) (length before) ≡ acceptance xs = rw (accepts, le-leb (size xs) (length before) (rw (← (clean .size-is)) room)) in
             let output : after ≡ over (traceOf xs) before = e ∙ ap (λ (l : List ℕ). over l before) (all-records xs accepts) in
+            let front = ap (take (size xs)) output ∙ take-at (traceOf xs) _ (size xs) (length-trace xs) in
             record {
               answer-is = rw (clean .size-is) (ap told (sym is));
               output-is = output ∙ ap (λ (o : Result). outputAfter o before) (sym is);
               again = λ ys h.
                   let same : xs ≡ ys = items xs ys (sym is ∙ h) in
-                  rw (← same) (ap check (ap (take (size xs)) output ∙ take-at (traceOf xs) _ (size xs) (length-trace xs)) ∙ reads-what-was-written typed xs accepts);
+                  rw (← same) (ap check front ∙ reads-what-was-written typed xs accepts);
               counts = rw (output, length-append) (omega (arith, length-trace xs, clean .size-is));
             }
           where

@@ -1,6 +1,6 @@
 -- The size of rows' records, by their kinds.
 use Prim.Native.Nat.{ℕ, zero, suc, _+_, _*_, _≤_, _<_}
-use mathlib.Core.Path.{_≡_, refl, ap, sym, _∙_}
+use mathlib.Core.Path.{_≡_, refl}
 use mathlib.Core.Bool.{Bool, true, false}
 use mathlib.Core.List.{List, [], _∷_}
 use native.Mathlib.Numerals.{add-one}
@@ -16,12 +16,12 @@ use Rattle.trace.specs.Bytes.{total}
 use Rattle.trace.specs.Table.{Row, rows, bodySize, isRow, kindRow}
 use Rattle.trace.proofs.Table.{kind-all, kind-none}
 use Rattle.writing.specs.Rows.{Rows, entry}
-use Rattle.writing.specs.Writing.{listSize, entrySize}
-use Rattle.writing.specs.Inner.Records.{rowAt, recordsTo}
+use Rattle.writing.specs.Writing.{listSize}
 use Rattle.writing.specs.Inner.Sizes.{sizeTo}
-use Rattle.writing.proofs.Entries.{entry-size, length-record-at}
+use Rattle.writing.proofs.Entries.{entry-size}
 use Rattle.writing.proofs.Lists.{size-append}
 
+-- one row more; no fewer bytes with more rows; and the size of the list that the rows say
 pub size-more : (heads : List ℕ) (i : ℕ) → sizeTo heads (i + 1) ≡ sizeTo heads i + (4 + bodySize (kindRow (getD heads (2 * i) 0)))
 unfolding sizeTo
 size-more heads i = rw (add-one i)

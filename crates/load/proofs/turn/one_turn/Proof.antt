@@ -30,7 +30,12 @@ noted-requires c κs = let h = at-body (c .before .before .before .before .befor
     let i = c .before .before .before .before .before .before .before .before .before .before .before .before .before .pre in
     let found = rw (c .before .before .before .enum-told2 .given .1) at (c .before .before .before .before .before .record-fault .ensures) in
     record {
-      known = record { bodied = h .bodied; at-low = omega (arith, i .at-inside, i .short); few = λ three. clean-request i (h .stands) (h .bodied) found three .0; room = i .room .known };
+      known = record {
+        bodied = h .bodied;
+        at-low = omega (arith, i .at-inside, i .short);
+        few = λ three. clean-request i (h .stands) (h .bodied) found three .0;
+        room = i .room .known;
+      };
       put = record {
         right = h .bodied .right;
         few = λ three. clean-request i (h .stands) (h .bodied) found three .0;

@@ -18,13 +18,15 @@ loop-holds : tie.Need-loop-holds Inv-loop μ-loop
 loop-holds c = (omega arith, rw (c .start .ensures) (inside-start _ (c .before .before .before .before .pre .1)))
 
 one-row-requires : tie.Need-one-row-requires Inv-loop μ-loop
-one-row-requires c κs = (omega (arith, c .before .loop-test .taken, c .before .before .before .before .before .before .before .pre .0), c .before .before .loop .inv .1)
+one-row-requires c κs = let l = c .before .before in
+    (omega (arith, c .before .loop-test .taken, l .before .before .before .before .before .pre .0), l .loop .inv .1)
 
 returns : tie.Need-returns Inv-loop μ-loop
 returns c = rw (c .before .turn .given .1) at (c .before .before .before .one-row .ensures)
 
 loop-again : tie.Need-loop-again Inv-loop μ-loop
-loop-again c = (omega (arith, c .before .before .before .before .before .loop-test .taken), rw (c .before .turn2 .given .1) at (c .before .before .before .one-row .ensures))
+loop-again c = let t = c .before .before .before in
+    (omega (arith, t .before .before .loop-test .taken), rw (c .before .turn2 .given .1) at (t .one-row .ensures))
 
 returns-2 : tie.Need-returns-2 Inv-loop μ-loop
 returns-2 c = let l = c .before .before .loop .inv in let d = c .before .before .before .before .before .before .before in

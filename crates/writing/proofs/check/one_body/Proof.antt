@@ -11,9 +11,6 @@ use Rattle.trace.proofs.Ranges.{requests-few}
 use Rattle.writing.proofs.check.one_body.Statement.{statement}
 use Rattle.writing.proofs.check.one_body.Tie as tie
 
-record-fault-requires : tie.Need-record-fault-requires
-record-fault-requires c κs = let d = c .before .before .pre in (d .0, d .1 .room .marks-size, d .1 .known .k-low)
-
 noted-requires : tie.Need-noted-requires
 noted-requires c κs = let d = c .before .before .before .before .before .before in let may = d .pre .1 in let b = now (d .args .b) in
     let found = rw (c .before .enum-told .given .1) at (c .before .before .before .record-fault .ensures) in
@@ -29,10 +26,13 @@ noted-requires c κs = let d = c .before .before .before .before .before .before
     }
 
 returns : tie.Need-returns
-returns c = record { clean = rw (c .before .before .enum-told .given .1) at (c .before .before .before .before .record-fault .ensures); noted = c .noted .ensures }
+returns c = record {
+  clean = rw (c .before .before .enum-told .given .1) at (c .before .before .before .before .record-fault .ensures);
+  noted = c .noted .ensures;
+}
 
 returns-2 : tie.Need-returns-2
 returns-2 c = rw (c .before .finding .given .1) at (c .before .before .before .record-fault .ensures)
 
 pub one-body-spec : {M : Type 1} → statement M
-one-body-spec = tie.close (tie.spec record-fault-requires (λ c. search needs) noted-requires (λ c. search needs) returns returns-2)
+one-body-spec = tie.close (tie.spec (λ c κs. search needs) (λ c. search needs) noted-requires (λ c. search needs) returns returns-2)

@@ -23,9 +23,6 @@ loop-holds : tie.Need-loop-holds Inv-loop μ-loop
 unfolding sizeTo
 loop-holds c = (omega arith, refl, omega arith)
 
-kind-at-requires : tie.Need-kind-at-requires Inv-loop μ-loop
-kind-at-requires c κs = let d = c .before .before .before in omega (arith, c .loop-test .taken, d .pre)
-
 -- the size of the record of row i, and of the rows up to it
 told-size : (c : tie.After-struct-known Inv-loop μ-loop) → c .before .kind-of .result .size ≡ bodySize (kindRow (c .before .before .kind-at .result))
 told-size c = ap (λ (k : Kind). k .size) (c .before .kind-of .ensures)
@@ -41,9 +38,6 @@ size-on c =
     told-size c ∙ ap (λ (k : ℕ). bodySize (kindRow k)) (c .before .before .kind-at .ensures) in
     omega (arith, more, told, l .inv .1)
 
-add-size : tie.Need-add-size Inv-loop μ-loop
-add-size c = record { fits = omega (arith, c .before .before .before .loop .inv .2) }
-
 add-size-2 : tie.Need-add-size-2 Inv-loop μ-loop
 add-size-2 c = record { fits = omega (arith, c .before .before .before .before .loop .inv .2, told-size c, body-few (c .before .before .kind-at .result)) }
 
@@ -51,14 +45,8 @@ returns : tie.Need-returns Inv-loop μ-loop
 returns c =
     let l = c .before .before .before .before .before .loop in
     let a = c .before .before .before .before .before .before .before .args in
-    sym (lt-ltb 65536 (sizeTo (now (a .heads)) (a .n))
-    (omega (arith, c .if1 .taken, size-on (c .before), size-grows (now (a .heads)) (l .i + 1) (a .n) (omega (arith, c .before .before .before .before .loop-test .taken)))))
-
-add-i : tie.Need-add-i Inv-loop μ-loop
-add-i c = search needs
-
-loop-less : tie.Need-loop-less Inv-loop μ-loop
-loop-less c = search needs
+    let grows = size-grows (now (a .heads)) (l .i + 1) (a .n) (omega (arith, c .before .before .before .before .loop-test .taken)) in
+    sym (lt-ltb 65536 (sizeTo (now (a .heads)) (a .n)) (omega (arith, c .if1 .taken, size-on (c .before), grows)))
 
 loop-again : tie.Need-loop-again Inv-loop μ-loop
 loop-again c = (omega (arith, c .before .before .before .before .loop-test .taken), size-on (c .before), omega (arith, c .if1 .left))
@@ -66,10 +54,23 @@ loop-again c = (omega (arith, c .before .before .before .before .loop-test .take
 returns-2 : tie.Need-returns-2 Inv-loop μ-loop
 returns-2 c =
     let l = c .before .loop in
-    let same : l .i ≡ c .before .before .before .args .n = omega (arith, c .loop-test .left, l .inv .0) in
-    sym (le-ltb 65536 (sizeTo (now (c .before .before .before .args .heads)) (c .before .before .before .args .n)) (rw (← same, ← (l .inv .1)) (l .inv .2)))
+    let a = c .before .before .before .args in
+    let same : l .i ≡ a .n = omega (arith, c .loop-test .left, l .inv .0) in
+    sym (le-ltb 65536 (sizeTo (now (a .heads)) (a .n)) (rw (← same, ← (l .inv .1)) (l .inv .2)))
 
 pub too-long-spec : {M : Type 1} → statement M
 too-long-spec =
     tie.close
-    (tie.spec Inv-loop μ-loop loop-holds kind-at-requires (λ c κs. search needs) add-size add-size-2 returns add-i loop-less loop-again returns-2)
+    (tie.spec
+    Inv-loop
+    μ-loop
+    loop-holds
+    (λ c κs. search needs)
+    (λ c κs. search needs)
+    (λ c. search needs)
+    add-size-2
+    returns
+    (λ c. search needs)
+    (λ c. search needs)
+    loop-again
+    returns-2)

@@ -14,7 +14,9 @@ put-number-requires c κs =
     (length-part (d .args .ones) (10 * d .args .i) (now (d .args .bytes)) (d .pre .0)) (d .pre .2)
 
 returns : tie.Need-returns
-returns c = rw (← (c .before .before .before .eight-at .ensures)) (wrote-then (c .before .before .before .before .before .before .before .put-ones .ensures) (c .before .before .put-number .ensures))
+returns c =
+    rw (← (c .before .before .before .eight-at .ensures))
+    (wrote-then (c .before .before .before .before .before .before .before .put-ones .ensures) (c .before .before .put-number .ensures))
 
 pub put-ones-and-eight-spec : {M : Type 1} → statement M
 put-ones-and-eight-spec =
