@@ -1,14 +1,12 @@
 -- Lines of request No. 1, computed on the definitions.
-use Prim.Native.Nat.{ℕ}
 use mathlib.Core.Path.{_≡_, refl}
-use mathlib.Core.List.{List, [], _∷_}
 use Rattle.lists.specs.Search as S
 use Rattle.digits.specs.Numeral as N
 use Rattle.digits.specs.Numeral.{bytesOf}
 use Rattle.event.specs.Event.{event, drain}
 use Rattle.trace.specs.Item.{shape, word, request, act}
 use Rattle.lines.specs.Forms.{forms, rowNamedIn, namesAt, placeIn}
-use Rattle.lines.specs.Said.{Said, skipped, says, wrong, lineSays}
+use Rattle.lines.specs.Said.{skipped, says, wrong, lineSays}
 use Rattle.lines.specs.Said as L
 use Rattle.lines.specs.declared.Reason.the-variants.{Name, Missing, Extra, NoNumber, TooLarge}
 

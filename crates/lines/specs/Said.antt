@@ -1,12 +1,12 @@
 -- What a line says: request No. 1 of document 02.
 use Prim.Native.Nat.{ℕ, zero, suc, _^_}
-use mathlib.Core.Bool.{Bool, true, not}
+use mathlib.Core.Bool.{Bool, not}
 use mathlib.Core.List.{List, [], _∷_}
 use lib.ListN.{length, getD, take, drop}
 use lib.Dec.{eqb, ltb}
 use Rattle.lists.specs.Choice.{choose}
 use Rattle.lists.specs.Search.{some}
-use Rattle.digits.specs.Numeral.{bytesOf, valueIn, isDecimal}
+use Rattle.digits.specs.Numeral.{valueIn, isDecimal}
 use Rattle.trace.specs.Item.{Item}
 use Rattle.trace.specs.Table.{Row, isRow}
 use Rattle.lines.specs.Forms.{rowNamed, namesAt, placeIn}

@@ -1,7 +1,6 @@
 -- The result of writing a list of items into a lent output: request No. 1 of document 02.
 use Prim.Native.Nat.{ℕ, zero, suc, _+_}
 use mathlib.Core.List.{List, [], _∷_}
-use lib.ListN.{length}
 use lib.Dec.{ltb, leb}
 use Rattle.lists.specs.Choice.{choose}
 use Rattle.lists.specs.Over.{over}
@@ -10,7 +9,7 @@ use Rattle.trace.specs.Table.{recordSize, size}
 use Rattle.trace.specs.Write.{traceOf}
 use Rattle.trace.specs.Records.{Records, done, broken, next}
 use Rattle.trace.specs.Check.{Verdict, refused, accepted, checkRecords}
-use Rattle.writing.specs.Rows.{Rows, Entry, known, unknown, entries}
+use Rattle.writing.specs.Rows.{Entry, known, unknown}
 use Rattle.writing.specs.declared.Written.{Written}
 
 -- how many bytes the records have together; a row of a kind that there is none of has a header
