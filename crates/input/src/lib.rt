@@ -1,6 +1,9 @@
 // Standard input, read to its end into a lent buffer.
 use libc::STDIN_FILENO;
+ghost use mathlib.Core.Path.{_≡_};
+ghost use mathlib.Core.Bool.{true};
 ghost use Rattle.io.specs.Counts.{Counts};
+ghost use Rattle.input.specs.Inner.Told.{NoneUnended};
 
 // Whether the end of the input, or of the room, was reached, and how many bytes were read.
 pub struct Input {
@@ -15,22 +18,17 @@ const SPARE: usize = 17;
 // and as many reads as there are bytes of room, and 17, are made at the most.
 pub fn read_all(buffer: &mut [u8]) -> Input
     ensures { λ r. ⌜ Counts (r .len) (now (buffer .exit)) ⌝ }
+    ensures { λ r. ⌜ NoneUnended r ⌝ }
 {
     let mut got = 0;
     let mut reads = buffer.len() + SPARE;
     while 0 < reads {
         if got == buffer.len() {
-            return Input {
-                ended: true,
-                len: got,
-            };
+            return ended(got);
         }
         let more = libc::read(STDIN_FILENO, &mut buffer[got..]);
         if more == 0 {
-            return Input {
-                ended: true,
-                len: got,
-            };
+            return ended(got);
         }
         got += io::count(more, &buffer[got..]);
         reads -= 1;
@@ -39,4 +37,10 @@ pub fn read_all(buffer: &mut [u8]) -> Input
         ended: false,
         len: 0,
     }
+}
+
+fn ended(len: usize) -> Input
+    ensures { λ r. ⌜ r ≡ record { ended = true; len = len } ⌝ }
+{
+    Input { ended: true, len }
 }

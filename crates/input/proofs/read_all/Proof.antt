@@ -1,10 +1,10 @@
 -- `read_all` meets its contract. The loop's invariant: what was read fits the buffer. Its measure: the reads left.
-use mathlib.Core.Path.{_≡_, sym}
 use Prim.Native.Nat.{_≤_}
-use lib.ListN.{length}
-use lib.Seq.{length-take-le}
+use mathlib.Core.Path.{_≡_}
 use native.Mathlib.Omega.{arith}
+use lib.ListN.{length}
 use borrow.Author.Needs.{needs}
+use Rattle.input.proofs.Counted.{told-ended, told-unended}
 use Rattle.input.proofs.read_all.Statement.{statement}
 use Rattle.input.proofs.read_all.Tie as tie
 
@@ -14,65 +14,14 @@ Inv-loop buffer₀ got₀ reads₀ buffer got reads = (got ≤ length buffer) ×
 abbrev μ-loop : tie.MeasureT-loop
 μ-loop buffer₀ got₀ reads₀ buffer got reads = reads
 
-add-reads : tie.Need-add-reads Inv-loop μ-loop
-add-reads c = search needs
-
-loop-holds : tie.Need-loop-holds Inv-loop μ-loop
-loop-holds c = search needs
-
-same-length : tie.Need-same-length Inv-loop μ-loop
-same-length c = search needs
-
 returns : tie.Need-returns Inv-loop μ-loop
-returns c = (omega arith, sym (length-take-le _ _ (omega arith)))
-
-sub-read : tie.Need-sub-read Inv-loop μ-loop
-sub-read c = search needs
-
-part-read-start : tie.Need-part-read-start Inv-loop μ-loop
-part-read-start c = search needs
-
-part-read-end : tie.Need-part-read-end Inv-loop μ-loop
-part-read-end c = search needs
-
-read-requires : tie.Need-read-requires Inv-loop μ-loop
-read-requires c κs = search needs
-
-same-length-2 : tie.Need-same-length-2 Inv-loop μ-loop
-same-length-2 c = search needs
+returns c = told-ended _ (c .ended .ensures) (c .before .before .before .loop .inv .0)
 
 returns-2 : tie.Need-returns-2 Inv-loop μ-loop
-returns-2 c = (omega arith, sym (length-take-le _ _ (omega arith)))
-
-sub-count : tie.Need-sub-count Inv-loop μ-loop
-sub-count c = search needs
-
-part-count-start : tie.Need-part-count-start Inv-loop μ-loop
-part-count-start c = search needs
-
-part-count-end : tie.Need-part-count-end Inv-loop μ-loop
-part-count-end c = search needs
-
-count-requires : tie.Need-count-requires Inv-loop μ-loop
-count-requires c κs = search needs
-
-add-got : tie.Need-add-got Inv-loop μ-loop
-add-got c = search needs
-
-sub-reads : tie.Need-sub-reads Inv-loop μ-loop
-sub-reads c = search needs
-
-loop-less : tie.Need-loop-less Inv-loop μ-loop
-loop-less c = search needs
-
-loop-again : tie.Need-loop-again Inv-loop μ-loop
-loop-again c = search needs
-
-same-length-3 : tie.Need-same-length-3 Inv-loop μ-loop
-same-length-3 c = search needs
+returns-2 c = told-ended _ (c .ended2 .ensures) (omega arith)
 
 returns-3 : tie.Need-returns-3 Inv-loop μ-loop
-returns-3 c = search needs
+returns-3 c = told-unended (c .before .loop .buffer)
 
 pub read-all-spec : {M : Type 1} → statement M
 read-all-spec =
@@ -80,23 +29,25 @@ read-all-spec =
     (tie.spec
     Inv-loop
     μ-loop
-    add-reads
-    loop-holds
-    same-length
+    (λ c. search needs)
+    (λ c. search needs)
+    (λ c κs. search needs)
+    (λ c. search needs)
     returns
-    sub-read
-    part-read-start
-    part-read-end
-    read-requires
-    same-length-2
+    (λ c. search needs)
+    (λ c. search needs)
+    (λ c. search needs)
+    (λ c κs. search needs)
+    (λ c κs. search needs)
+    (λ c. search needs)
     returns-2
-    sub-count
-    part-count-start
-    part-count-end
-    count-requires
-    add-got
-    sub-reads
-    loop-less
-    loop-again
-    same-length-3
+    (λ c. search needs)
+    (λ c. search needs)
+    (λ c. search needs)
+    (λ c κs. search needs)
+    (λ c. search needs)
+    (λ c. search needs)
+    (λ c. search needs)
+    (λ c. search needs)
+    (λ c. search needs)
     returns-3)

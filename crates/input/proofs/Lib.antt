@@ -1,0 +1,2 @@
+-- The law of what is told of an input.
+pub mod Counted
