@@ -1,5 +1,5 @@
 -- Laws of a name's place among names.
-use Prim.Native.Nat.{ℕ, suc, _+_, _≤_, _<_}
+use Prim.Native.Nat.{ℕ, suc, _≤_, _<_}
 use mathlib.Core.Path.{_≡_, refl}
 use mathlib.Core.Bool.{Bool, true, false}
 use mathlib.Core.List.{List, [], _∷_}
@@ -7,12 +7,10 @@ use native.Mathlib.Omega.{arith}
 use lib.ListN.{length, drop}
 use lib.Dec.{ltb}
 use Rattle.lists.specs.Choice.{choose}
-use Rattle.lists.specs.Search.{some}
 use Rattle.digits.specs.Numeral.{bytesOf, same}
 use Rattle.trace.specs.Table.{shapeRow, wordRow, requestRow, eventRow, drainRow, noRow}
-use Rattle.lines.specs.Forms.{forms, rowNamedIn, rowNamed, operations, whats, placeIn}
-use Rattle.lines.specs.Said.{leading, isSpace, fieldsUpTo, fields}
-use Rattle.lines.specs.Inner.Told.{namedIn}
+use Rattle.lines.specs.Forms.{forms, rowNamedIn, rowNamed, placeIn}
+use Rattle.lines.specs.Said.{fields}
 use Rattle.lines.specs.Inner.Read.{PlaceSought}
 
 -- ---- a name is sought, name by name
@@ -35,43 +33,19 @@ module _ (name names : List ℕ) (at place : ℕ) (h : PlaceSought name names at
       let more : placeIn name (fields (drop at names)) ≡ suc (placeIn name (fields (drop end names))) = rw (e, t) in
       record { inside = inside; few = omega (arith, h .few); so-far = omega (arith, more, h .so-far) }
 
--- ---- the names that the code has
-operation-names : fields (bytesOf "load swap add mask") ≡ operations
-unfolding some bytesOf leading isSpace fieldsUpTo fields
-operation-names = refl
-
-pub four-operations : length (fields (bytesOf "load swap add mask")) ≡ 4
-four-operations = rw operation-names
-
-pub in-operations : (name : List ℕ) → namedIn (fields (bytesOf "load swap add mask")) name ≡ namedIn operations name
-in-operations name = rw operation-names
-
-what-names : fields (bytesOf "issue forward module return collect") ≡ whats
-unfolding some bytesOf leading isSpace fieldsUpTo fields
-what-names = refl
-
-pub five-whats : length (fields (bytesOf "issue forward module return collect")) ≡ 5
-five-whats = rw what-names
-
-pub in-whats : (name : List ℕ) → namedIn (fields (bytesOf "issue forward module return collect")) name ≡ namedIn whats name
-in-whats name = rw what-names
-
+-- ---- the names of records
 abbrev recordNames : List (List ℕ)
 recordNames = bytesOf "shape" ∷ bytesOf "word" ∷ bytesOf "request" ∷ bytesOf "event" ∷ bytesOf "drain" ∷ []
-
-record-names : fields (bytesOf "shape word request event drain") ≡ recordNames
-unfolding some bytesOf leading isSpace fieldsUpTo fields
-record-names = refl
 
 -- the place of the first test that is met
 abbrev placeBy : Bool → Bool → Bool → Bool → Bool → ℕ
 placeBy a b c d e = choose a 0 (suc (choose b 0 (suc (choose c 0 (suc (choose d 0 (suc (choose e 0 1))))))))
 
 -- kinds count from 1 in the order of the names
-kind-in : (name : List ℕ) → choose (ltb (placeIn name recordNames) 5) (suc (placeIn name recordNames)) 0 ≡ rowNamed name .kind
+pub kind-is : (name : List ℕ) (place : ℕ) → place ≡ placeIn name recordNames → choose (ltb place 5) (suc place) 0 ≡ rowNamed name .kind
 unfolding forms rowNamedIn placeIn
-kind-in name = go (same name (bytesOf "shape")) (same name (bytesOf "word")) (same name (bytesOf "request")) (same name (bytesOf "event"))
-    (same name (bytesOf "drain"))
+kind-is name place is = rw is (go (same name (bytesOf "shape")) (same name (bytesOf "word")) (same name (bytesOf "request"))
+    (same name (bytesOf "event")) (same name (bytesOf "drain")))
   where
     go : (a b c d e : Bool) → choose (ltb (placeBy a b c d e) 5) (suc (placeBy a b c d e)) 0 ≡
         choose a shapeRow (choose b wordRow (choose c requestRow (choose d eventRow (choose e drainRow noRow)))) .kind
@@ -81,7 +55,3 @@ kind-in name = go (same name (bytesOf "shape")) (same name (bytesOf "word")) (sa
     go false false false true e = refl
     go false false false false true = refl
     go false false false false false = refl
-
-pub kind-is : (name : List ℕ) (place : ℕ) → place ≡ placeIn name (fields (bytesOf "shape word request event drain")) →
-    choose (ltb place 5) (suc place) 0 ≡ rowNamed name .kind
-kind-is name place e = rw (e, record-names) (kind-in name)

@@ -5,7 +5,8 @@ ghost use Rattle.digits.specs.Numeral.{same};
 ghost use Rattle.lines.specs.Forms.{rowNamed, namesAt, placeIn};
 ghost use Rattle.lines.specs.Said.{fields};
 ghost use Rattle.lines.specs.Inner.Told.{namedIn};
-use crate::bounds::{past_spaces, past_field};
+use crate::bounds::past_field;
+use crate::bounds::past_spaces;
 
 // The number that a name stands for, where it stands for one.
 pub enum Named {
