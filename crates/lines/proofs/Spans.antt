@@ -91,6 +91,13 @@ module _ (line : List ℕ) (at begin : ℕ) (spaces : begin ≡ at + leading isS
   pub fields-end : length line ≤ begin → fields (drop at line) ≡ []
   fields-end h = fields-none (drop at line) (ap (λ (l : List ℕ). length l) (past-is ∙ drop-of-length-le line {i = begin} h))
 
+  -- a field has a byte at least
+  pub field-some : (end : ℕ) → begin < length line → end ≡ begin + leading inField (drop begin line) → begin < end
+  field-some end h e =
+      let some : 0 < length (drop begin line) = omega (arith, length-drop begin line) in
+      let stop : isSpace (getD (drop begin line) 0 0) ≡ false = rw past-is at (stops isSpace (drop at line) (rw past-is some)) in
+      omega (arith, leading-some inField (drop begin line) some (rw stop))
+
   pub fields-next : (end : ℕ) → begin < length line → end ≡ begin + leading inField (drop begin line) →
       fields (drop at line) ≡ take (end - begin) (drop begin line) ∷ fields (drop end line)
   fields-next end h e =

@@ -1,8 +1,12 @@
 // The names in lines: of records, and of numbers that have names.
 ghost use mathlib.Core.Path.{_≡_};
+ghost use lib.ListN.{length};
 ghost use Rattle.digits.specs.Numeral.{same};
-ghost use Rattle.lines.specs.Forms.{rowNamed, operations, whats, namesAt};
+ghost use Rattle.lines.specs.Forms.{rowNamed, namesAt, placeIn};
+ghost use Rattle.lines.specs.Said.{fields};
 ghost use Rattle.lines.specs.Inner.Told.{namedIn};
+use crate::bounds::past_field;
+use crate::bounds::past_spaces;
 
 // The number that a name stands for, where it stands for one.
 pub enum Named {
@@ -14,20 +18,9 @@ pub enum Named {
 pub fn kind_named(name: &[u8]) -> u16
     ensures { λ r. ⌜ r ≡ rowNamed (now (name .entry)) .kind ⌝ }
 {
-    if is_name(name, b"shape") {
-        return 1;
-    }
-    if is_name(name, b"word") {
-        return 2;
-    }
-    if is_name(name, b"request") {
-        return 3;
-    }
-    if is_name(name, b"event") {
-        return 4;
-    }
-    if is_name(name, b"drain") {
-        return 5;
+    let place = place_among(name, b"shape word request event drain");
+    if place < 5 {
+        return (place + 1) as u16;
     }
     0
 }
@@ -38,56 +31,49 @@ pub fn named_at(kind: u16, place: usize, name: &[u8]) -> Named
 {
     if kind == 3 {
         if place == 1 {
-            return operation_named(name);
+            return named_among(name, b"load swap add mask", 4);
         }
         return Named::Nothing;
     }
     if kind == 4 {
         if place == 0 {
-            return what_named(name);
+            return named_among(name, b"issue forward module return collect", 5);
         }
         return Named::Nothing;
     }
     Named::Nothing
 }
 
-fn operation_named(name: &[u8]) -> Named
-    ensures { λ r. ⌜ r ≡ namedIn operations (now (name .entry)) ⌝ }
+// What a name stands for among so many names.
+fn named_among(name: &[u8], names: &[u8], count: usize) -> Named
+    requires { ⌜ length (fields (now names)) ≡ count ⌝ }
+    ensures { λ r. ⌜ r ≡ namedIn (fields (now (names .entry))) (now (name .entry)) ⌝ }
 {
-    if is_name(name, b"load") {
-        return Named::Number(0);
-    }
-    if is_name(name, b"swap") {
-        return Named::Number(1);
-    }
-    if is_name(name, b"add") {
-        return Named::Number(2);
-    }
-    if is_name(name, b"mask") {
-        return Named::Number(3);
+    let place = place_among(name, names);
+    if place < count {
+        return Named::Number(place as u64);
     }
     Named::Nothing
 }
 
-fn what_named(name: &[u8]) -> Named
-    ensures { λ r. ⌜ r ≡ namedIn whats (now (name .entry)) ⌝ }
+// The place of a name among names with spaces between them; how many there are, where it is none of them.
+fn place_among(name: &[u8], names: &[u8]) -> usize
+    ensures { λ r. ⌜ r ≡ placeIn (now (name .entry)) (fields (now (names .entry))) ⌝ }
 {
-    if is_name(name, b"issue") {
-        return Named::Number(0);
+    let mut at = 0;
+    let mut place = 0;
+    loop {
+        let begin = past_spaces(names, at);
+        if begin == names.len() {
+            return place;
+        }
+        let end = past_field(names, begin);
+        if is_name(name, &names[begin..end]) {
+            return place;
+        }
+        place += 1;
+        at = end;
     }
-    if is_name(name, b"forward") {
-        return Named::Number(1);
-    }
-    if is_name(name, b"module") {
-        return Named::Number(2);
-    }
-    if is_name(name, b"return") {
-        return Named::Number(3);
-    }
-    if is_name(name, b"collect") {
-        return Named::Number(4);
-    }
-    Named::Nothing
 }
 
 fn is_name(name: &[u8], other: &[u8]) -> bool

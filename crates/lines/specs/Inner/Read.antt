@@ -1,11 +1,12 @@
 -- What the code says of a line.
-use Prim.Native.Nat.{ℕ, _≤_}
+use Prim.Native.Nat.{ℕ, _+_, _≤_}
 use mathlib.Core.Bool.{true}
 use mathlib.Core.List.{List}
 use mathlib.Core.Path.{_≡_}
 use lib.ListN.{length, take, drop}
 use Rattle.trace.specs.Table.{isRow, kindRow}
 use Rattle.trace.specs.Inner.Fits.{FieldsFit}
+use Rattle.lines.specs.Forms.{placeIn}
 use Rattle.lines.specs.Said as L
 use Rattle.lines.specs.Said.{fields, valuesFrom, made, lineSays}
 use Rattle.lines.specs.Inner.Told.{inFront}
@@ -44,3 +45,9 @@ pub record FieldsRead (line : List ℕ) (start kind : ℕ) (values : List ℕ) (
   pub so-far : valuesFrom kind 0 (kindRow kind .widths) (fields (drop start line)) ≡
       inFront (take place values) (valuesFrom kind place (drop place (kindRow kind .widths)) (fields (drop at line)))
   pub fit : FieldsFit (take place (kindRow kind .widths)) (take place values)
+
+-- a name is sought among names, as far as an offset: so many in front of it are others
+pub record PlaceSought (name names : List ℕ) (at place : ℕ) : Type 0 where
+  pub inside : at ≤ length names
+  pub few : place ≤ at
+  pub so-far : placeIn name (fields names) ≡ place + placeIn name (fields (drop at names))
