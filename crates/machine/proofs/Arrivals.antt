@@ -13,12 +13,11 @@ use Rattle.lists.proofs.Searches.{Last, lastOf-is, First, firstOf-is}
 use Rattle.lists.proofs.Tests.{ltb-either}
 use Rattle.machine.specs.Setup.{Setup, Message, WaitRecord}
 use Rattle.machine.specs.Arrival.{Node, Arrival, merged, appended, refused, append, combine, meet, youngest, arrive, oldestOf, recordsOf}
-use Rattle.machine.specs.Inner.Lawful.{Lawful}
 use Rattle.machine.proofs.Records.{records-none}
 use Rattle.machine.proofs.Moves.{withBehind, withMerged}
 
 module _ (S : Setup) where
-  open Setup S using (Word, Operation, apply, merge, Q, W)
+  open Setup S using (Operation, merge, Q, W)
 
   -- ---- the youngest message of an address
   abbrev Youngest : ℕ → List (Message S) → Found (Message S) → Type 0
@@ -42,7 +41,7 @@ module _ (S : Setup) where
     pub parts : n .queue ≡ older ++ (into ∷ younger)
     pub same : into .address ≡ m .address
     pub last : All (λ (y : Message S). y .address ≢ m .address) younger
-    pub applies : (x : Word) → apply operation x ≡ apply (m .operation) (apply (into .operation) x)
+    pub merges : merge (into .operation) (m .operation) ≡ some operation
     pub node : n′ ≡ withMerged S n m older into younger operation
 
   abbrev pub Arrived : Node S → Message S → Arrival S → Type 0
@@ -50,7 +49,7 @@ module _ (S : Setup) where
   Arrived n m (appended n′) = n′ ≡ withBehind S n m
   Arrived n m refused = Q ≤ length (n .queue)
 
-  module _ (law : Lawful S) (n : Node S) (m : Message S) where
+  module _ (n : Node S) (m : Message S) where
     append-is : Arrived n m (append S n m)
     unfolding append
     append-is = ltb-either (Arrived n m) (length (n .queue)) Q (λ _. refl) (λ h. h)
@@ -68,7 +67,7 @@ module _ (S : Setup) where
           parts = h .0;
           same = h .1;
           last = h .2;
-          applies = law .merge-applies (f .operation) (m .operation) o e;
+          merges = e;
           node = refl;
         })
         (λ _. append-is)

@@ -29,3 +29,5 @@ pub mod Rest
 pub mod Sound
 pub mod Demand3
 pub mod Omega
+pub mod Octets
+pub mod Accounted

@@ -4,6 +4,7 @@ use Prim.Native.Nat.{ℕ, suc, _<_}
 use mathlib.Core.Path.{_≡_}
 use mathlib.Core.Logic.{_≢_}
 use mathlib.Core.List.{List, [], _∷_, _++_}
+use mathlib.Core.Option.{some}
 use Rattle.lists.specs.Search.{All}
 use Rattle.machine.specs.Setup.{Setup, Message, WaitRecord, Reply, place}
 use Rattle.machine.specs.Arrival.{Node, recordsOf}
@@ -11,7 +12,7 @@ use Rattle.machine.specs.State.{State}
 use Rattle.machine.specs.Steps.{nodeAt, sent, taken, split, lowered, collectOldest}
 
 module _ (S : Setup) where
-  open Setup S using (Word, Operation, apply, k)
+  open Setup S using (Operation, merge, k)
 
   -- the node with m appended
   abbrev pub withBehind : Node S → Message S → Node S
@@ -42,8 +43,7 @@ module _ (S : Setup) where
     merging : (s p : ℕ) (m : Message S) (rest older : List (Message S)) (f : Message S) (younger : List (Message S)) (o : Operation)
         → s < k → st .requests s p ≡ m ∷ rest → st .requests (suc s) (place S (m .tag) (suc s)) ≡ older ++ (f ∷ younger)
         → f .address ≡ m .address → All (λ (y : Message S). y .address ≢ m .address) younger
-        → ((x : Word) → apply o x ≡ apply (m .operation) (apply (f .operation) x))
-        → Move st (afterMerge st s p m rest older f younger o)
+        → merge (f .operation) (m .operation) ≡ some o → Move st (afterMerge st s p m rest older f younger o)
     serving : (p : ℕ) (m : Message S) (rest : List (Message S)) → st .requests k p ≡ m ∷ rest → Move st (taken S st p m rest)
     -- a second of the oldest reply is answered, one level down on its own path
     answering : (s p : ℕ) (t : Reply S) (rest : List (Reply S)) (older : List (WaitRecord S)) (r : WaitRecord S) (younger : List (WaitRecord S))

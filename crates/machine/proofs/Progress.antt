@@ -190,7 +190,8 @@ module _ (S : Setup) (law : Lawful S) (words : ℕ → S .Word) where
   -- after each move less is left
   pub move-live : {a b : State S} → Move S a b → (n : ℕ) → Live S words a n → Nearer S words b n
   move-live {a} (appending s p m rest lt is) n L = append-live (L .places) a (L .invariant) (L .held) n (L .bound) s p m rest lt is
-  move-live {a} (merging s p m rest older f younger o lt is parts same last applies) n L =
+  move-live {a} (merging s p m rest older f younger o lt is parts same last merges) n L =
+      let applies = law .merge-applies (f .operation) (m .operation) o merges in
       merge-live (L .places) a (L .invariant) (L .held) n (L .bound) s p m rest lt is older f younger o parts
       (merge-keeps S law words (L .places) a (L .invariant) s p m rest is lt older f younger o parts same last applies)
   move-live {a} (serving p m rest is) n L = serve-live (L .places) a (L .invariant) (L .held) n (L .bound) p m rest is

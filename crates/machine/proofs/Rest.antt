@@ -6,7 +6,7 @@ use mathlib.Core.List.{List, [], _∷_, _++_, List·Memᴰ}
 use mathlib.Core.Option.{Option, none, some}
 use native.Mathlib.Omega.{arith}
 use Rattle.lists.specs.Search.{All, cons}
-use Rattle.lists.proofs.Every.{all-tail, all-map, all-left, all-right, member-split}
+use Rattle.lists.proofs.Every.{all-tail, all-map, all-left, all-right, all-empty, member-split}
 use Rattle.lists.proofs.Tests.{test-clash}
 use Rattle.event.specs.Event.{Event, Act, event, drain}
 use Rattle.machine.specs.Setup.{Setup}
@@ -41,16 +41,22 @@ module _ (S : Setup) where
   none-left-below places zero h = refl
   none-left-below places (suc n) h = rw (h n (omega arith), remaining-end S) (omega (arith, none-left-below places n (λ t l. h t (omega arith))))
 
-  answered-live : {words : ℕ → Word} (st : State S) (n : ℕ) → allAnswered S st ≡ true → Live S words st n → Live S words st 0
-  answered-live st n h L = record {
-    places = L .places;
-    invariant = L .invariant;
-    held = L .held;
-    bound = omega (arith, none-left-below (L .places) R at-end);
-  }
-    where
-      at-end : (t : ℕ) → t < R → L .places t ≡ 3
-      at-end t l = let z = value-of (st .answers t) (below-answered S st R h t l) in L .invariant .collected t (z .0) (z .1) .0
+  module _ {words : ℕ → Word} (st : State S) (n : ℕ) (h : allAnswered S st ≡ true) (L : Live S words st n) where
+    at-end : (t : ℕ) → t < R → L .places t ≡ 3
+    at-end t l = let z = value-of (st .answers t) (below-answered S st R h t l) in L .invariant .collected t (z .0) (z .1) .0
+
+    answered-live : Live S words st 0
+    answered-live = record {
+      places = L .places;
+      invariant = L .invariant;
+      held = L .held;
+      bound = omega (arith, none-left-below (L .places) R at-end);
+    }
+
+    -- and no message is left
+    pub answered-empty : (s p : ℕ) → st .requests s p ≡ []
+    answered-empty s p = all-empty
+        (λ m z. let i : m .tag < R = L .held .known (m .tag) (omega (arith, z .0)) in omega (arith, z .0, at-end (m .tag) i)) (L .invariant .requested s p)
 
 module _ (S : Setup) (law : Lawful S) (words : ℕ → S .Word) where
   open Setup S using (k, R)

@@ -29,7 +29,7 @@ module _ (S : Setup) where
   move-merges : {a b : State S} → Move S a b → b .merges ≤ suc (a .merges)
   unfolding collectOldest
   move-merges (appending s p m rest lt is) = omega arith
-  move-merges (merging s p m rest older f younger o lt is parts same last applies) = omega arith
+  move-merges (merging s p m rest older f younger o lt is parts same last merges) = omega arith
   move-merges (serving p m rest is) = omega arith
   move-merges (answering s p t rest older r younger is parts of) = omega arith
   move-merges (lowering s p t rest is free) = omega arith
@@ -38,7 +38,7 @@ module _ (S : Setup) where
   move-accesses : {a b : State S} → Move S a b → a .accesses ≤ length (a .order) → b .accesses ≤ length (b .order)
   unfolding collectOldest
   move-accesses (appending s p m rest lt is) h = h
-  move-accesses (merging s p m rest older f younger o lt is parts same last applies) h = h
+  move-accesses (merging s p m rest older f younger o lt is parts same last merges) h = h
   move-accesses {a} (serving p m rest is) h = omega (arith, length-append (a .order) (standsFor S (a .waits) k (m .tag)), stands-some S (a .waits) k (m .tag))
   move-accesses (answering s p t rest older r younger is parts of) h = h
   move-accesses (lowering s p t rest is free) h = h

@@ -30,7 +30,7 @@ unfolding listBelow
 tags-above zero u l = refl
 tags-above (suc n) u l = let m : n ≢ u = (λ e. omega arith) in rw count-append (omega (arith, tags-above n u (omega arith), same-no m))
 
-tags-below : (n u : ℕ) → u < n → count itself u (tagsBelow n) ≡ 1
+pub tags-below : (n u : ℕ) → u < n → count itself u (tagsBelow n) ≡ 1
 unfolding listBelow
 tags-below zero u l = absurd (omega arith)
 tags-below (suc n) u l = by-cases (ℕ-discrete n u)
@@ -56,7 +56,7 @@ module _ (S : Setup) where
       (λ _. omega (arith, asked-count e u ts)) (λ _. omega (arith, asked-count e u ts))
 
   -- every request stands with its engine
-  asked-own : (u : ℕ) (ts : List ℕ) → count (messageTag S) u (askedBy S (engineOf u) ts) ≡ count itself u ts
+  pub asked-own : (u : ℕ) (ts : List ℕ) → count (messageTag S) u (askedBy S (engineOf u) ts) ≡ count itself u ts
   unfolding askedBy
   asked-own u [] = refl
   asked-own u (t ∷ ts) =
@@ -65,10 +65,10 @@ module _ (S : Setup) where
       (λ _. omega (arith, asked-own u ts)) (λ n. omega (arith, asked-own u ts, same-no (λ (e : t ≡ u). n (ap engineOf e))))
 
   -- a message of engine e as it is asked, with what holds of its tag
-  abbrev Asked : (ℕ → Type 0) → ℕ → Message S → Type 0
+  abbrev pub Asked : (ℕ → Type 0) → ℕ → Message S → Type 0
   Asked P e m = P (m .tag) × (engineOf (m .tag) ≡ e) × (m ≡ asked S (m .tag))
 
-  asked-all : {P : ℕ → Type 0} (e : ℕ) {ts : List ℕ} → All P ts → All (Asked P e) (askedBy S e ts)
+  pub asked-all : {P : ℕ → Type 0} (e : ℕ) {ts : List ℕ} → All P ts → All (Asked P e) (askedBy S e ts)
   unfolding askedBy
   asked-all e nil = nil
   asked-all {P} e (cons {x = t} {xs = ts} h hs) =

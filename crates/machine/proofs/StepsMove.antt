@@ -49,7 +49,7 @@ module _ (S : Setup) where
 
   module _ (st : State S) where
     -- ---- issue and forward
-    module _ (law : Lawful S) (s p : ℕ) (lt : s < k) where
+    module _ (s p : ℕ) (lt : s < k) where
       abbrev Reason : Type 0
       Reason = Stuck (st .requests s p) (st .requests (suc s))
 
@@ -62,14 +62,14 @@ module _ (S : Setup) where
         unfolding landed
         landed-does (merged n) h =
             subst (λ (x : Node S). Does Reason st (sent S st s p rest to x (suc (st .merges)))) (sym (h .node))
-            (moved (merging s p m rest (h .older) (h .into) (h .younger) (h .operation) lt is (h .parts) (h .same) (h .last) (h .applies)))
+            (moved (merging s p m rest (h .older) (h .into) (h .younger) (h .operation) lt is (h .parts) (h .same) (h .last) (h .merges)))
         landed-does (appended n) h =
             subst (λ (x : Node S). Does Reason st (sent S st s p rest to x (st .merges))) (sym h) (moved (appending s p m rest lt is))
         landed-does refused h = idle (full to h)
 
         oldest-does : Does Reason st (forwardOldest S st s p (m ∷ rest))
         unfolding forwardOldest
-        oldest-does = landed-does (arrive S (nodeAt S st (suc s) to) m) (arrive-is S law (nodeAt S st (suc s) to) m)
+        oldest-does = landed-does (arrive S (nodeAt S st (suc s) to) m) (arrive-is S (nodeAt S st (suc s) to) m)
 
       forward-does : Does Reason st (forwardStep S s p st)
       unfolding forwardStep forwardOldest
@@ -136,8 +136,8 @@ module _ (S : Setup) where
     pub step-does : Lawful S → (e : Event) → levelFits k (e .what) (e .level) ≡ true → Does (Why e st) st (step S e st)
     unfolding step levelFits
     step-does law e =
-        choose-does (eqb (e .what) 0) (λ _. forward-does law 0 (e .position) (law .levels))
-        (choose-does (eqb (e .what) 1) (λ h. forward-does law (e .level) (e .position) (below-k (e .level) h))
+        choose-does (eqb (e .what) 0) (λ _. forward-does 0 (e .position) (law .levels))
+        (choose-does (eqb (e .what) 1) (λ h. forward-does (e .level) (e .position) (below-k (e .level) h))
         (choose-does (eqb (e .what) 2) (λ _. module-does (e .position))
         (choose-does (eqb (e .what) 3) (λ _. return-does (e .level - 1) (e .position))
         (choose-does (eqb (e .what) 4) (λ _. collect-does (e .position))

@@ -60,7 +60,7 @@ module _ (S : Setup) where
 
     move-later : {a b : State S} (n : ℕ) → Live S words a n → Move S a b → Later a b
     move-later {a} {b} n L (appending s p m rest lt is) = later-same a b refl refl
-    move-later {a} {b} n L (merging s p m rest older f younger o lt is parts same last applies) = later-same a b refl refl
+    move-later {a} {b} n L (merging s p m rest older f younger o lt is parts same last merges) = later-same a b refl refl
     move-later {a} n L (serving p m rest is) = record { grows = (standsFor S (a .waits) k (m .tag), refl); stays = λ t v h. h }
     move-later {a} {b} n L (answering s p t rest older r younger is parts of) = later-same a b refl refl
     move-later {a} {b} n L (lowering s p t rest is free) = later-same a b refl refl

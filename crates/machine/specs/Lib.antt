@@ -7,4 +7,5 @@ pub mod Run
 pub mod Single
 pub mod Order
 pub mod Omega
+pub mod Octets
 pub mod Inner

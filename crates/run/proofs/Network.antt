@@ -12,7 +12,9 @@ use Rattle.trace.specs.Item.{Request, Items}
 use Rattle.trace.specs.Contents.{shapeOf, requestsOf, requestAt, actsOf}
 use Rattle.trace.specs.Inner.Ranges.{RequestIn, ActIn, InRange}
 use Rattle.machine.specs.Order.{Named}
-use Rattle.machine.specs.Inner.Lawful.{Lawful}
+use Rattle.machine.specs.Octets.{octetCounter}
+use Rattle.machine.specs.Inner.Lawful.{Lawful, LawfulCounter}
+use Rattle.machine.proofs.Omega.{octets-lawful}
 use Rattle.shown.specs.Inner.Network.{Ranges}
 use Rattle.shown.proofs.Reaching.{ranges-lawful}
 use Rattle.run.specs.Results.{setupOf}
@@ -48,6 +50,10 @@ module _ (items : Items) (within : InRange items) where
 
   pub trace-lawful : Lawful (setupOf items)
   trace-lawful = ranges-lawful {x = networkOf items} network-ranges
+
+  -- document 01's counter, of the trace's network
+  pub trace-octets : LawfulCounter (setupOf items) octetCounter
+  trace-octets = let x = networkOf items in octets-lawful (x .k) (x .Q) (x .W) (x .R) (x .engineOf) (x .addressOf) (x .askedOf)
 
   pub acts-named : All (Named (shapeOf items .k)) (actsOf items)
   acts-named = all-map (act-named (shapeOf items .k)) (within .acts-in)

@@ -1,8 +1,10 @@
--- What the order theorem asks of a setup: the law of merging, and what is needed of the wiring and of the rooms.
-use Prim.Native.Nat.{ℕ, suc, _<_}
+-- What the order theorem asks of a setup: the law of merging, and what is needed of the wiring and of the rooms; and what No. 2 asks of a counter.
+use Prim.Native.Nat.{ℕ, suc, _+_, _<_}
 use mathlib.Core.Path.{_≡_}
+use mathlib.Core.Bool.{true}
 use mathlib.Core.Option.{some}
 use Rattle.machine.specs.Setup.{Setup, place}
+use Rattle.machine.specs.Octets.{Counter}
 
 module _ (S : Setup) where
   open Setup S using (Word, Operation, apply, merge, k, N, Q, engineOf, position)
@@ -18,3 +20,17 @@ module _ (S : Setup) where
     -- "k 1 to 4; queue room Q 1 to 4"
     pub levels : 0 < k
     pub room : 0 < Q
+
+module _ (S : Setup) (C : Counter (S .Word) (S .Operation)) where
+  open Setup S using (Word, Operation, apply, merge)
+  open Counter C using (number, cut, isLoadOrAdd, operand)
+
+  pub record LawfulCounter : Type 0 where
+    -- the cut of a true sum may be taken inside
+    pub cut-inside : (x y : ℕ) → cut (cut x + y) ≡ cut (x + y)
+    -- a load or an add brings its operand to the word, and what a word keeps it keeps again
+    pub adds : (f : Operation) → isLoadOrAdd f ≡ true → (x : Word) → cut (number (apply f x)) ≡ cut (number x + operand f)
+    pub keeps : (f : Operation) → isLoadOrAdd f ≡ true → (x : Word) → cut (number x) ≡ number x → cut (number (apply f x)) ≡ number (apply f x)
+    -- where two of them merge, one of them comes of it, and it brings what the two bring
+    pub merges : (f g h : Operation) → isLoadOrAdd f ≡ true → isLoadOrAdd g ≡ true → merge f g ≡ some h
+        → (isLoadOrAdd h ≡ true) × (cut (operand h) ≡ cut (operand f + operand g))
