@@ -8,6 +8,7 @@ use native.Mathlib.Decide.{decLt, ℕ-discrete}
 use native.Mathlib.Omega.{arith}
 use lib.ListN.{length}
 use Rattle.lists.specs.Search.{All, nil, cons}
+use Rattle.lists.specs.Count.{totalBelow}
 use Rattle.lists.proofs.Tests.{by-cases, test-cases, test-clash, both-true}
 use Rattle.lists.proofs.Counts.{element}
 use Rattle.lists.proofs.Every.{all-empty}
@@ -45,7 +46,7 @@ module _ (S : Setup) where
 
   -- ---- where no move is left every request is answered
   none-remains : {places : ℕ → ℕ} {st : State S} → Held S places st → (n : ℕ) → left S places n ≤ 0 → (t : ℕ) → t < n → places t ≡ 3
-  unfolding left
+  unfolding totalBelow
   none-remains H zero h t l = absurd (omega arith)
   none-remains {places} H (suc n) h t l = by-cases (ℕ-discrete t n)
       (λ (e : t ≡ n). rw e (remaining-none S (places n) (omega arith) (H .spot n)))

@@ -6,9 +6,10 @@ use mathlib.Core.Bool.{true}
 use native.Mathlib.Decide.{ℕ-discrete}
 use native.Mathlib.Omega.{arith}
 use Rattle.lists.specs.Table.{update}
-use Rattle.lists.specs.Count.{count}
+use Rattle.lists.specs.Count.{count, totalBelow}
 use Rattle.lists.proofs.Tests.{by-cases}
 use Rattle.lists.proofs.Tables.{update-same, update-other}
+use Rattle.lists.proofs.Totals.{totals-more}
 use Rattle.machine.specs.Setup.{Setup, place}
 use Rattle.machine.specs.State.{State}
 use Rattle.machine.specs.Run.{isAnswered}
@@ -69,27 +70,14 @@ module _ (S : Setup) where
   remaining-none c e (atReply s l h) = absurd (omega (arith, remaining-reply s, ap remaining h))
 
   -- the moves left, of the requests below n
-  unfoldable pub left : (ℕ → ℕ) → ℕ → ℕ
-  left places zero = 0
-  left places (suc n) = remaining (places n) + left places n
+  abbrev pub left : (ℕ → ℕ) → ℕ → ℕ
+  left places n = totalBelow n (λ u. remaining (places u))
 
-  module _ (places : ℕ → ℕ) (t v : ℕ) (less : remaining v < remaining (places t)) where
-    one-less : (u : ℕ) → remaining (update places t v u) ≤ remaining (places u)
-    one-less u = by-cases (ℕ-discrete u t)
-        (λ (e : u ≡ t). rw (e, update-same) (omega arith))
-        (λ (n : u ≢ t). rw (update-other places t v n) (omega arith))
-
-    no-more : (n : ℕ) → left (update places t v) n ≤ left places n
-    unfolding left
-    no-more zero = omega arith
-    no-more (suc n) = omega (arith, one-less n, no-more n)
-
-    pub left-falls : (n : ℕ) → t < n → left (update places t v) n < left places n
-    unfolding left
-    left-falls zero l = absurd (omega arith)
-    left-falls (suc n) l = by-cases (ℕ-discrete n t)
-        (λ (e : n ≡ t). let z : remaining (update places t v n) < remaining (places n) = rw (e, update-same) less in omega (arith, z, no-more n))
-        (λ (m : n ≢ t). omega (arith, one-less n, left-falls n (omega arith)))
+  pub left-falls : (places : ℕ → ℕ) (t v : ℕ) → remaining v < remaining (places t) → (n : ℕ) → t < n → left (update places t v) n < left places n
+  left-falls places t v less n l =
+      let fewer = remaining (places t) - remaining v in
+      let more : remaining (places t) ≡ remaining (update places t v t) + fewer = rw update-same (omega arith) in
+      omega (arith, totals-more n (λ u. remaining (update places t v u)) (λ u. remaining (places u)) t fewer l more (λ u d. rw (update-other places t v d)))
 
   -- ---- every request stands where its place says; what is no request of the trace has the place 3
   pub record Held (places : ℕ → ℕ) (st : State S) : Type 0 where

@@ -8,6 +8,7 @@ use native.Mathlib.Omega.{arith}
 use Rattle.lists.specs.Search.{All, cons}
 use Rattle.lists.proofs.Every.{all-tail, all-map, all-left, all-right, all-empty, member-split}
 use Rattle.lists.proofs.Tests.{test-clash}
+use Rattle.lists.proofs.Totals.{totals-none}
 use Rattle.event.specs.Event.{Event, Act, event, drain}
 use Rattle.machine.specs.Setup.{Setup}
 use Rattle.machine.specs.State.{State, start}
@@ -16,7 +17,7 @@ use Rattle.machine.specs.Run.{runEvents, isAnswered, allAnswered, Ran, d
 use Rattle.machine.specs.Order.{Named, atStart}
 use Rattle.machine.specs.Inner.Lawful.{Lawful}
 use Rattle.machine.proofs.Moves.{Move}
-use Rattle.machine.proofs.Places.{remaining-end, left}
+use Rattle.machine.proofs.Places.{remaining, remaining-end}
 use Rattle.machine.proofs.Progress.{Live, move-live}
 use Rattle.machine.proofs.Start.{start-live}
 use Rattle.machine.proofs.StepsMove.{step-keeps}
@@ -36,11 +37,6 @@ module _ (S : Setup) where
   value-of none h = test-clash h refl
   value-of (some v) h = (v, refl)
 
-  none-left-below : (places : ℕ → ℕ) (n : ℕ) → ((t : ℕ) → t < n → places t ≡ 3) → left S places n ≡ 0
-  unfolding left
-  none-left-below places zero h = refl
-  none-left-below places (suc n) h = rw (h n (omega arith), remaining-end S) (omega (arith, none-left-below places n (λ t l. h t (omega arith))))
-
   module _ {words : ℕ → Word} (st : State S) (n : ℕ) (h : allAnswered S st ≡ true) (L : Live S words st n) where
     at-end : (t : ℕ) → t < R → L .places t ≡ 3
     at-end t l = let z = value-of (st .answers t) (below-answered S st R h t l) in L .invariant .collected t (z .0) (z .1) .0
@@ -50,7 +46,7 @@ module _ (S : Setup) where
       places = L .places;
       invariant = L .invariant;
       held = L .held;
-      bound = omega (arith, none-left-below (L .places) R at-end);
+      bound = omega (arith, totals-none R _ (λ t l. ap (remaining S) (at-end t l) ∙ remaining-end S));
     }
 
     -- and no message is left

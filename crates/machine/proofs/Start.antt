@@ -9,7 +9,7 @@ use lib.Dec.{ltb}
 use Rattle.lists.specs.Choice.{choose}
 use Rattle.lists.specs.Table.{listBelow}
 use Rattle.lists.specs.Search.{All, nil, cons}
-use Rattle.lists.specs.Count.{count, same}
+use Rattle.lists.specs.Count.{count, same, totalBelow}
 use Rattle.lists.proofs.Tests.{by-cases, eqb-cases, ltb-cases}
 use Rattle.lists.proofs.Every.{all-map, all-append}
 use Rattle.lists.proofs.Counts.{same-yes, same-no, count-append, itself}
@@ -147,7 +147,7 @@ module _ (S : Setup) where
     }
 
     start-left : (n : ℕ) → left S startPlaces n ≤ n * (2 * k + 2)
-    unfolding left
+    unfolding totalBelow
     start-left zero = omega arith
     start-left (suc n) =
         let z : remaining S (startPlaces n) ≤ 2 * k + 2 =
