@@ -70,7 +70,8 @@ struct whetbracken_numbers {
 
 /* Checks a trace whole, then runs it. Of an accepted trace with R requests the first R replies are the values (0 where unanswered),
  * the first R marks are 1 where answered and else 0, the first `ordered` order places are the order list's tags, and the first 256
- * words are the memory; all that is lent beyond those stays, and so does all that is lent where the trace is refused. */
+ * words are the memory; all that is lent beyond those stays, and so does all that is lent where the trace is refused. Where all R
+ * marks are 1, each word that gets loads and adds only is its starting word plus all adds to it, modulo 2^64. */
 struct whetbracken_numbers whetbracken_model(
     const uint8_t *trace, size_t trace_len,
     uint64_t *replies, size_t replies_len,
