@@ -6,7 +6,7 @@ use mathlib.Core.List.{List, [], ◌∷◌, ◌++◌, append-nil}
 use native.Mathlib.Omega.{arith}
 use lib.ListN.{length, get_or, take, drop, set, length-set, drop_of_length-le}
 use lib.Seq.{take-suc, take-suc-set, take_all, drop-cons}
-use Rattle.trace.specs.Table.{is_row, kind-row}
+use Rattle.trace.specs.Table.{is_row, kind_row}
 use Rattle.trace.specs.Inner.Fits.{FieldsFit, no_field, field_fits}
 use Rattle.lines.specs.Forms.{names_at}
 use Rattle.lines.specs.Said as L
@@ -46,46 +46,46 @@ module _ (line : List ℕ) (start kind : ℕ) where
 
   module _ {values : List ℕ} {place at : ℕ} (so : FieldsRead line start kind values place at) where
     -- what is wrong behind the fields that are read is what is wrong with the line
-    wrong-here : (reason : Reason) → values_from kind place (drop place (kind-row kind).widths) (fields (drop at line)) ≡ L.wrong reason (suc place) →
+    wrong-here : (reason : Reason) → values_from kind place (drop place (kind_row kind).widths) (fields (drop at line)) ≡ L.wrong reason (suc place) →
         SaidRead (kind_says kind (fields (drop start line))) (Wrong reason (suc place)) values
     unfolding kind_says made
     wrong-here reason e = record {
-      told = ap (made (kind-row kind)) (so.so_far ∙ ap (in_front (take place values)) e ∙ front-wrong (take place values) reason (suc place));
+      told = ap (made (kind_row kind)) (so.so_far ∙ ap (in_front (take place values)) e ∙ front-wrong (take place values) reason (suc place));
       room = so.room;
     }
 
-    pub fields-missing : place < length (kind-row kind).widths → fields (drop at line) ≡ [] →
+    pub fields-missing : place < length (kind_row kind).widths → fields (drop at line) ≡ [] →
         SaidRead (kind_says kind (fields (drop start line))) (Wrong Missing (suc place)) values
     unfolding values_from
-    fields-missing l e = wrong-here Missing (rw (drop-cons (kind-row kind).widths place 0 l, e))
+    fields-missing l e = wrong-here Missing (rw (drop-cons (kind_row kind).widths place 0 l, e))
 
-    pub fields-extra : length (kind-row kind).widths ≤ place → (f : List ℕ) (fs : List (List ℕ)) → fields (drop at line) ≡ f ∷ fs →
+    pub fields-extra : length (kind_row kind).widths ≤ place → (f : List ℕ) (fs : List (List ℕ)) → fields (drop at line) ≡ f ∷ fs →
         SaidRead (kind_says kind (fields (drop start line))) (Wrong Extra (suc place)) values
     unfolding values_from
-    fields-extra l f fs e = wrong-here Extra (rw (drop_of_length-le (kind-row kind).widths {i = place} l, e))
+    fields-extra l f fs e = wrong-here Extra (rw (drop_of_length-le (kind_row kind).widths {i = place} l, e))
 
     -- the field at hand, in front of the rest
-    one_more : (f : List ℕ) (fs : List (List ℕ)) → place < length (kind-row kind).widths → fields (drop at line) ≡ f ∷ fs →
-        values_from kind place (drop place (kind-row kind).widths) (fields (drop at line)) ≡
-        told_then place (told_at kind place f) (values_from kind (suc place) (drop (suc place) (kind-row kind).widths) fs)
+    one_more : (f : List ℕ) (fs : List (List ℕ)) → place < length (kind_row kind).widths → fields (drop at line) ≡ f ∷ fs →
+        values_from kind place (drop place (kind_row kind).widths) (fields (drop at line)) ≡
+        told_then place (told_at kind place f) (values_from kind (suc place) (drop (suc place) (kind_row kind).widths) fs)
     unfolding values_from width_at
     one_more f fs l e =
-        rw (drop-cons (kind-row kind).widths place 0 l, e)
-        (then-told (names_at kind place) place (get_or (kind-row kind).widths place 0) f
-        (values_from kind (suc place) (drop (suc place) (kind-row kind).widths) fs))
+        rw (drop-cons (kind_row kind).widths place 0 l, e)
+        (then-told (names_at kind place) place (get_or (kind_row kind).widths place 0) f
+        (values_from kind (suc place) (drop (suc place) (kind_row kind).widths) fs))
 
-    pub fields-bad : (f : List ℕ) (fs : List (List ℕ)) (reason : Reason) → place < length (kind-row kind).widths → fields (drop at line) ≡ f ∷ fs →
+    pub fields-bad : (f : List ℕ) (fs : List (List ℕ)) (reason : Reason) → place < length (kind_row kind).widths → fields (drop at line) ≡ f ∷ fs →
         Bad reason ≡ told_at kind place f → SaidRead (kind_says kind (fields (drop start line))) (Wrong reason (suc place)) values
     fields-bad f fs reason l e b = wrong-here reason (one_more f fs l e ∙ rw (← b))
 
-    pub fields-more : (f : List ℕ) (end n : ℕ) → is_row (kind-row kind) ≡ true → place < length (kind-row kind).widths → end ≤ length line →
+    pub fields-more : (f : List ℕ) (end n : ℕ) → is_row (kind_row kind) ≡ true → place < length (kind_row kind).widths → end ≤ length line →
         fields (drop at line) ≡ f ∷ fields (drop end line) → Value n ≡ told_at kind place f →
         FieldsRead line start kind (set values place n) (suc place) end
     unfolding width_at
     fields-more f end n row l h e v =
         let inside : place < length values = omega (arith, few-fields kind row, so.room) in
         let taken : take (suc place) (set values place n) ≡ take place values ++ (n ∷ []) = take-suc-set values place n inside in
-        let rest = values_from kind (suc place) (drop (suc place) (kind-row kind).widths) (fields (drop end line)) in
+        let rest = values_from kind (suc place) (drop (suc place) (kind_row kind).widths) (fields (drop end line)) in
         record {
           inside = h;
           many = omega arith;
@@ -94,23 +94,23 @@ module _ (line : List ℕ) (start kind : ℕ) where
               ∙ ap (in_front (take place values)) (one_more f (fields (drop end line)) l e ∙ rw (← v) refl)
               ∙ sym (front-more (take place values) n rest)
               ∙ ap (λ (vs : List ℕ). in_front vs rest) (sym taken);
-          fit = rw (taken, take-suc (kind-row kind).widths place 0 l)
-              (fit-more (get_or (kind-row kind).widths place 0) n so.fit (told-fits kind place n f row l v));
+          fit = rw (taken, take-suc (kind_row kind).widths place 0 l)
+              (fit-more (get_or (kind_row kind).widths place 0) n so.fit (told-fits kind place n f row l v));
         }
 
-    pub fields-all : is_row (kind-row kind) ≡ true → place ≡ length (kind-row kind).widths → fields (drop at line) ≡ [] →
+    pub fields-all : is_row (kind_row kind) ≡ true → place ≡ length (kind_row kind).widths → fields (drop at line) ≡ [] →
         SaidRead (kind_says kind (fields (drop start line))) (Item kind) values
     unfolding kind_says made values_from
     fields-all row l e =
-        let none : drop place (kind-row kind).widths ≡ [] = drop_of_length-le (kind-row kind).widths {i = place} (omega arith) in
-        let last : values_from kind place (drop place (kind-row kind).widths) (fields (drop at line)) ≡ all [] = rw (none, e) in
-        let whole : values_from kind 0 (kind-row kind).widths (fields (drop start line)) ≡ all (take place values) =
+        let none : drop place (kind_row kind).widths ≡ [] = drop_of_length-le (kind_row kind).widths {i = place} (omega arith) in
+        let last : values_from kind place (drop place (kind_row kind).widths) (fields (drop at line)) ≡ all [] = rw (none, e) in
+        let whole : values_from kind 0 (kind_row kind).widths (fields (drop start line)) ≡ all (take place values) =
         so.so_far ∙ ap (in_front (take place values)) last ∙ front-all (take place values) [] ∙ ap all (append-nil (take place values)) in
         record {
           told = record {
             is-row = row;
-            says_is = ap (made (kind-row kind)) whole ∙ ap (λ (n : ℕ). L.says ((kind-row kind).make (take n values))) l;
-            fit = rw (← l) (subst (λ (ws : List ℕ). FieldsFit ws (take place values)) (take_all place (kind-row kind).widths (omega arith)) so.fit);
+            says_is = ap (made (kind_row kind)) whole ∙ ap (λ (n : ℕ). L.says ((kind_row kind).make (take n values))) l;
+            fit = rw (← l) (subst (λ (ws : List ℕ). FieldsFit ws (take place values)) (take_all place (kind_row kind).widths (omega arith)) so.fit);
           };
           room = so.room;
         }

@@ -12,7 +12,7 @@ use Rattle.lists.proofs.Tests.{clash}
 use Rattle.digits.specs.Numeral.{value_in, is_decimal}
 use Rattle.digits.specs.Inner.Value.{spelled}
 use Rattle.digits.specs.declared.read.Spelled.TheVariants as S
-use Rattle.trace.specs.Table.{is_row, kind-row}
+use Rattle.trace.specs.Table.{is_row, kind_row}
 use Rattle.lines.specs.Forms.{names_at, place_in}
 use Rattle.lines.specs.Said.{Values, wrong, behind, number_then, field_then}
 use Rattle.lines.specs.Inner.Told.{named_in, number_told, field_told, width_at, told_at, told_then}
@@ -103,7 +103,7 @@ then-told names place width f rest = go (ltb (place_in f names) (length names)) 
     go false false c = refl
 
 -- a number that is told fits its field
-pub told-fits : (kind place n : ℕ) (f : List ℕ) → is_row (kind-row kind) ≡ true → place < length (kind-row kind).widths → Value n ≡ told_at kind place f →
+pub told-fits : (kind place n : ℕ) (f : List ℕ) → is_row (kind_row kind) ≡ true → place < length (kind_row kind).widths → Value n ≡ told_at kind place f →
     n < 256 ^ width_at kind place
 unfolding field_told number_told
 told-fits kind place n f h l e =

@@ -9,7 +9,7 @@ use lib.Dec.{ltb}
 use Rattle.lists.specs.Choice.{choose}
 use Rattle.digits.specs.Numeral.{bytes_of, same}
 use Rattle.trace.specs.Table.{shape_row, word_row, request_row, event_row, drain_row, no_row}
-use Rattle.lines.specs.Forms.{forms, row_named_in, row-named, place_in}
+use Rattle.lines.specs.Forms.{forms, row_named_in, row_named, place_in}
 use Rattle.lines.specs.Said.{fields}
 use Rattle.lines.specs.Inner.Read.{PlaceSought}
 
@@ -42,7 +42,7 @@ abbrev place_by : Bool → Bool → Bool → Bool → Bool → ℕ
 place_by a b c d e = choose a 0 (suc (choose b 0 (suc (choose c 0 (suc (choose d 0 (suc (choose e 0 1))))))))
 
 -- kinds count from 1 in the order of the names
-pub kind-is : (name : List ℕ) (place : ℕ) → place ≡ place_in name record_names → choose (ltb place 5) (suc place) 0 ≡ (row-named name).kind
+pub kind-is : (name : List ℕ) (place : ℕ) → place ≡ place_in name record_names → choose (ltb place 5) (suc place) 0 ≡ (row_named name).kind
 unfolding forms row_named_in place_in
 kind-is name place is = rw is (go (same name (bytes_of "shape")) (same name (bytes_of "word")) (same name (bytes_of "request"))
     (same name (bytes_of "event")) (same name (bytes_of "drain")))

@@ -22,8 +22,8 @@ unfoldable pub row_named_in : List ℕ → List Form → Row
 row_named_in name [] = no_row
 row_named_in name (f ∷ fs) = choose (same name f.name) f.row (row_named_in name fs)
 
-abbrev pub row-named : List ℕ → Row
-row-named name = row_named_in name forms
+abbrev pub row_named : List ℕ → Row
+row_named name = row_named_in name forms
 
 -- the name of a kind's records
 unfoldable pub name_in : ℕ → List Form → List ℕ

@@ -5,7 +5,7 @@ use Rattle.lists.specs.Search.{some}
 use Rattle.digits.specs.Numeral.{value_in, is_decimal}
 use Rattle.trace.specs.Item.{Item}
 use Rattle.trace.specs.Table.{Row, is_row}
-use Rattle.lines.specs.Forms.{row-named, names_at, place_in}
+use Rattle.lines.specs.Forms.{row_named, names_at, place_in}
 use Rattle.lines.specs.declared.Reason.{Reason}
 use Rattle.lines.specs.declared.Reason.TheVariants.{Name, Missing, Extra, NoNumber, TooLarge}
 
@@ -87,7 +87,7 @@ made row (wrong reason place) = wrong reason place
 unfoldable pub fields_say : List (List ℕ) → Said
 fields_say [] = skipped
 fields_say (name ∷ rest) =
-    choose (is_row (row-named name)) (made (row-named name) (values_from (row-named name).kind 0 (row-named name).widths rest)) (wrong Name 0)
+    choose (is_row (row_named name)) (made (row_named name) (values_from (row_named name).kind 0 (row_named name).widths rest)) (wrong Name 0)
 
 -- "a line is skipped if it has nothing but spaces, or begins with `#`"
 unfoldable pub line_says : List ℕ → Said

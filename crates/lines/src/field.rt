@@ -1,7 +1,7 @@
 // The number that a field of a record has.
 ghost use Rattle.std.specs.Prelude.{◌≡◌, true, ◌+◌, ◌<◌, ◌^◌, length};
 ghost use Rattle.lists.specs.Choice.{choose};
-ghost use Rattle.trace.specs.Table.{is_row, kind-row};
+ghost use Rattle.trace.specs.Table.{is_row, kind_row};
 ghost use Rattle.lines.specs.Inner.Told.{number_told, width_at, told_at};
 
 use crate::Reason;
@@ -23,8 +23,8 @@ const EIGHT_BYTES: u64 = 18446744073709551615;
 
 // How many fields a kind's record has.
 pub fn field_count(kind: u16) -> usize
-    requires { is_row (kind-row kind) ≡ true }
-    ensures { result ≡ length (kind-row kind).widths }
+    requires { is_row (kind_row kind) ≡ true }
+    ensures { result ≡ length (kind_row kind).widths }
 {
     match kind {
         1 => 3,
@@ -37,7 +37,7 @@ pub fn field_count(kind: u16) -> usize
 
 // The number of a field of a kind's record; a name may stand for it.
 pub fn field_told(kind: u16, place: usize, field: &[u8]) -> Told
-    requires { (is_row (kind-row kind) ≡ true) × (place < length (kind-row kind).widths) }
+    requires { (is_row (kind_row kind) ≡ true) × (place < length (kind_row kind).widths) }
     ensures { result ≡ told_at kind place field.now }
 {
     let named = crate::names::named_at(kind, place, field);
@@ -49,7 +49,7 @@ pub fn field_told(kind: u16, place: usize, field: &[u8]) -> Told
 
 // The largest number that the bytes of a field hold.
 fn largest(kind: u16, place: usize) -> u64
-    requires { (is_row (kind-row kind) ≡ true) × (place < length (kind-row kind).widths) }
+    requires { (is_row (kind_row kind) ≡ true) × (place < length (kind_row kind).widths) }
     ensures { result + 1 ≡ 256 ^ width_at kind place }
 {
     match kind {

@@ -1,6 +1,6 @@
 // What a line says: request No. 1 of document 02.
 ghost use Rattle.std.specs.Prelude.{◌≡◌, true, ◌≤◌, length, get_or, drop, eqb};
-ghost use Rattle.trace.specs.Table.{is_row, kind-row};
+ghost use Rattle.trace.specs.Table.{is_row, kind_row};
 ghost use Rattle.lines.specs.Said.{fields};
 ghost use Rattle.lines.specs.Inner.Read.{kind_says, SaidRead, LineRead};
 
@@ -65,7 +65,7 @@ fn is_comment(line: &[u8]) -> bool
 
 // What the fields behind the name of a kind say, field by field.
 fn fields_say(line: &[u8], start: usize, kind: u16, values: &mut Values) -> Said
-    requires { (start ≤ length line.now) × (length values.old ≡ 5) × (is_row (kind-row kind) ≡ true) }
+    requires { (start ≤ length line.now) × (length values.old ≡ 5) × (is_row (kind_row kind) ≡ true) }
     ensures { SaidRead (kind_says kind (fields (drop start line.now))) result values.new }
 {
     let count = field::field_count(kind);

@@ -1,7 +1,7 @@
 // The names in lines: of records, and of numbers that have names.
 ghost use Rattle.std.specs.Prelude.{◌≡◌, length};
 ghost use Rattle.digits.specs.Numeral.{same};
-ghost use Rattle.lines.specs.Forms.{row-named, names_at, place_in};
+ghost use Rattle.lines.specs.Forms.{row_named, names_at, place_in};
 ghost use Rattle.lines.specs.Said.{fields};
 ghost use Rattle.lines.specs.Inner.Told.{named_in};
 
@@ -16,7 +16,7 @@ pub enum Named {
 
 // The kind of the records of a name; 0 where no record has it.
 pub fn kind_named(name: &[u8]) -> u16
-    ensures { result ≡ (row-named name.now).kind }
+    ensures { result ≡ (row_named name.now).kind }
 {
     let place = place_among(name, b"shape word request event drain");
     if place < 5 {

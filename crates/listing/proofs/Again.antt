@@ -21,7 +21,7 @@ use Rattle.trace.specs.Item.{Item, shape, word, request, act}
 use Rattle.trace.specs.Table.{Row, parts_of, row_of}
 use Rattle.trace.specs.Inner.Fits.{FieldsFit, no_field, field_fits, FitsBytes}
 use Rattle.trace.proofs.Table.{item-right}
-use Rattle.lines.specs.Forms.{forms, row_named_in, row-named, name_in, name_of, operations, whats, names_at, place_in}
+use Rattle.lines.specs.Forms.{forms, row_named_in, row_named, name_in, name_of, operations, whats, names_at, place_in}
 use Rattle.lines.specs.Said.{Values, all, behind, number_then, field_then, values_from, says, made, fields_say, line_says}
 use Rattle.listing.specs.Listing.{shown_from, parts_line, item_line}
 use Rattle.listing.specs.Inner.Again.{following, parts_unended, unended, Plain}
@@ -165,7 +165,7 @@ values-read kind place (field_fits {width = width} {field = v} {widths = widths}
 -- a record's name is a name, and that of its row
 record RowNamed (r : Row) : Type 0 where
   name : Named (name_of r.kind)
-  row_is : row-named (name_of r.kind) ≡ r
+  row_is : row_named (name_of r.kind) ≡ r
 
 row-named : (x : Item) → RowNamed (row_of x)
 unfolding parts_of bytes_of same forms row_named_in name_in above is_name

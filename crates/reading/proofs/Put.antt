@@ -13,7 +13,7 @@ use borrow.Author.Tests.{ne_eqb}
 use Rattle.lists.proofs.Tests.{below-cases, by_cases, choose_no, test-clash}
 use Rattle.event.specs.Event.{event, drain}
 use Rattle.trace.specs.Item.{shape, word, request, act}
-use Rattle.trace.specs.Table.{first_row, kind-row}
+use Rattle.trace.specs.Table.{first_row, kind_row}
 use Rattle.trace.specs.Table as T
 use Rattle.trace.specs.Inner.Fits.{FieldsFit, no_field, field_fits}
 use Rattle.writing.specs.Rows.{Rows, rows, row_count, kind_at, cell, picked, entry_of, entry, known}
@@ -100,46 +100,46 @@ module _ (r : Rows) (i : ℕ) (values : List ℕ) where
       × (get_or r.bytes (10 * i + 2) 0 ≡ get_or values 2 0)
 
   says-shape : kind_at r i ≡ 1 → Three → entry r i ≡ known (item_of 1 values)
-  unfolding Three entry kind-row first_row T.rows entry_of picked update cell
+  unfolding Three entry kind_row first_row T.rows entry_of picked update cell
   says-shape kind (e0, e1, e2) =
       let b0 = first_cell r.bytes (10 * i) 3 0 (omega arith) e0 in
       let b1 = field r.bytes (10 * i + 1) 3 1 (omega arith) e1 in
       let b2 = field r.bytes (10 * i + 2) 3 2 (omega arith) e2 in
-      ap (λ (k : ℕ). entry_of (kind-row k) (cell r i)) kind ∙ (λ t. known (shape (record { k = b0 t; q = b1 t; w = b2 t })))
+      ap (λ (k : ℕ). entry_of (kind_row k) (cell r i)) kind ∙ (λ t. known (shape (record { k = b0 t; q = b1 t; w = b2 t })))
 
   says-word : kind_at r i ≡ 2 → get_or r.bytes (10 * i) 0 ≡ get_or values 0 0 → get_or r.words (8 * i) 0 ≡ get_or values 1 0 →
       entry r i ≡ known (item_of 2 values)
-  unfolding entry kind-row first_row T.rows entry_of picked update cell
+  unfolding entry kind_row first_row T.rows entry_of picked update cell
   says-word kind e0 e1 =
       let b0 = first_cell r.bytes (10 * i) 2 0 (omega arith) e0 in
       let w0 = first_cell r.words (8 * i) 2 1 (omega arith) e1 in
-      ap (λ (k : ℕ). entry_of (kind-row k) (cell r i)) kind ∙ (λ t. known (word (record { address = b0 t; value = w0 t })))
+      ap (λ (k : ℕ). entry_of (kind_row k) (cell r i)) kind ∙ (λ t. known (word (record { address = b0 t; value = w0 t })))
 
   says-request : kind_at r i ≡ 3 → Three → get_or r.words (8 * i) 0 ≡ get_or values 3 0 → get_or r.words (8 * i + 1) 0 ≡ get_or values 4 0 →
       entry r i ≡ known (item_of 3 values)
-  unfolding Three entry kind-row first_row T.rows entry_of picked update cell
+  unfolding Three entry kind_row first_row T.rows entry_of picked update cell
   says-request kind (e0, e1, e2) e3 e4 =
       let b0 = first_cell r.bytes (10 * i) 5 0 (omega arith) e0 in
       let b1 = field r.bytes (10 * i + 1) 5 1 (omega arith) e1 in
       let b2 = field r.bytes (10 * i + 2) 5 2 (omega arith) e2 in
       let w0 = first_cell r.words (8 * i) 5 3 (omega arith) e3 in
       let w1 = field r.words (8 * i + 1) 5 4 (omega arith) e4 in
-      ap (λ (k : ℕ). entry_of (kind-row k) (cell r i)) kind
+      ap (λ (k : ℕ). entry_of (kind_row k) (cell r i)) kind
       ∙ (λ t. known (request (record { engine = b0 t; operation = b1 t; address = b2 t; first = w0 t; second = w1 t })))
 
   says-event : kind_at r i ≡ 4 → Three → entry r i ≡ known (item_of 4 values)
-  unfolding Three entry kind-row first_row T.rows entry_of picked update cell
+  unfolding Three entry kind_row first_row T.rows entry_of picked update cell
   says-event kind (e0, e1, e2) =
       let b0 = first_cell r.bytes (10 * i) 3 0 (omega arith) e0 in
       let b1 = field r.bytes (10 * i + 1) 3 1 (omega arith) e1 in
       let b2 = field r.bytes (10 * i + 2) 3 2 (omega arith) e2 in
-      ap (λ (k : ℕ). entry_of (kind-row k) (cell r i)) kind ∙ (λ t. known (act (event (record { what = b0 t; level = b1 t; position = b2 t }))))
+      ap (λ (k : ℕ). entry_of (kind_row k) (cell r i)) kind ∙ (λ t. known (act (event (record { what = b0 t; level = b1 t; position = b2 t }))))
 
   says-drain : kind_at r i ≡ 5 → get_or r.heads (2 * i + 1) 0 ≡ get_or values 0 0 → entry r i ≡ known (item_of 5 values)
-  unfolding entry kind-row first_row T.rows entry_of picked update cell
+  unfolding entry kind_row first_row T.rows entry_of picked update cell
   says-drain kind e0 =
       let h0 = first_cell r.heads (2 * i + 1) 1 0 (omega arith) e0 in
-      ap (λ (k : ℕ). entry_of (kind-row k) (cell r i)) kind ∙ (λ t. known (act (drain (h0 t))))
+      ap (λ (k : ℕ). entry_of (kind_row k) (cell r i)) kind ∙ (λ t. known (act (drain (h0 t))))
 
 -- ---- kind by kind
 module _ (values : List ℕ) (i : ℕ) (h b w : List ℕ) (room : i < row_count (rows h b w)) where
@@ -190,7 +190,7 @@ field-low (field_fits p rest) zero l = p
 field-low (field_fits p rest) (suc j) l = field-low rest j (omega arith)
 
 module _ {kind : ℕ} {values : List ℕ} (may : MayKeep kind values) where
-  value_low : (widths : List ℕ) → (kind-row kind).widths ≡ widths → (j : ℕ) → j < length widths → get_or values j 0 < 256 ^ get_or widths j 0
+  value_low : (widths : List ℕ) → (kind_row kind).widths ≡ widths → (j : ℕ) → j < length widths → get_or values j 0 < 256 ^ get_or widths j 0
   value_low widths e j l =
       let fit : FieldsFit widths (take (length widths) values) = subst (λ (ws : List ℕ). FieldsFit ws (take (length ws) values)) e may.fit in
       rw (get_or-take (length widths) values j 0 l) at (field-low fit j l)
@@ -198,34 +198,34 @@ module _ {kind : ℕ} {values : List ℕ} (may : MayKeep kind values) where
   BytesLow : Type 0
   BytesLow = (get_or values 0 0 < 256) × (get_or values 1 0 < 256) × (get_or values 2 0 < 256)
 
-  three-low : (rest : List ℕ) → (kind-row kind).widths ≡ 1 ∷ 1 ∷ 1 ∷ rest → BytesLow
+  three-low : (rest : List ℕ) → (kind_row kind).widths ≡ 1 ∷ 1 ∷ 1 ∷ rest → BytesLow
   unfolding BytesLow
   three-low rest e = let low = value_low (1 ∷ 1 ∷ 1 ∷ rest) e in (low 0 (omega arith), low 1 (omega arith), low 2 (omega arith))
 
   pub shape-low : kind ≡ 1 → (get_or values 0 0 < 256) × (get_or values 1 0 < 256) × (get_or values 2 0 < 256)
-  unfolding BytesLow kind-row first_row T.rows
-  shape-low e = three-low [] (ap (λ (k : ℕ). (kind-row k).widths) e)
+  unfolding BytesLow kind_row first_row T.rows
+  shape-low e = three-low [] (ap (λ (k : ℕ). (kind_row k).widths) e)
 
   pub request-low : kind ≡ 3 → (get_or values 0 0 < 256) × (get_or values 1 0 < 256) × (get_or values 2 0 < 256)
-  unfolding BytesLow kind-row first_row T.rows
-  request-low e = three-low (8 ∷ 8 ∷ []) (ap (λ (k : ℕ). (kind-row k).widths) e)
+  unfolding BytesLow kind_row first_row T.rows
+  request-low e = three-low (8 ∷ 8 ∷ []) (ap (λ (k : ℕ). (kind_row k).widths) e)
 
   pub event-low : kind ≡ 4 → (get_or values 0 0 < 256) × (get_or values 1 0 < 256) × (get_or values 2 0 < 256)
-  unfolding BytesLow kind-row first_row T.rows
-  event-low e = three-low [] (ap (λ (k : ℕ). (kind-row k).widths) e)
+  unfolding BytesLow kind_row first_row T.rows
+  event-low e = three-low [] (ap (λ (k : ℕ). (kind_row k).widths) e)
 
   pub word_low : kind ≡ 2 → get_or values 0 0 < 256
-  unfolding kind-row first_row T.rows
-  word_low e = value_low (1 ∷ 8 ∷ []) (ap (λ (k : ℕ). (kind-row k).widths) e) 0 (omega arith)
+  unfolding kind_row first_row T.rows
+  word_low e = value_low (1 ∷ 8 ∷ []) (ap (λ (k : ℕ). (kind_row k).widths) e) 0 (omega arith)
 
   pub drain-low : kind ≡ 5 → get_or values 0 0 < 65536
-  unfolding kind-row first_row T.rows
-  drain-low e = value_low (2 ∷ []) (ap (λ (k : ℕ). (kind-row k).widths) e) 0 (omega arith)
+  unfolding kind_row first_row T.rows
+  drain-low e = value_low (2 ∷ []) (ap (λ (k : ℕ). (kind_row k).widths) e) 0 (omega arith)
 
   -- the table has no other kind
   pub is-drain : kind ≢ 1 → kind ≢ 2 → kind ≢ 3 → kind ≢ 4 → kind ≡ 5
-  unfolding kind-row first_row T.rows
+  unfolding kind_row first_row T.rows
   is-drain n1 n2 n3 n4 = by_cases (ℕ_discrete kind 5) (λ (e : kind ≡ 5). e) (λ (n5 : kind ≢ 5).
-      let none : kind-row kind ≡ T.no_row = choose_no _ _ (ne_eqb kind 1 n1) ∙ choose_no _ _ (ne_eqb kind 2 n2) ∙ choose_no _ _ (ne_eqb kind 3 n3)
+      let none : kind_row kind ≡ T.no_row = choose_no _ _ (ne_eqb kind 1 n1) ∙ choose_no _ _ (ne_eqb kind 2 n2) ∙ choose_no _ _ (ne_eqb kind 3 n3)
       ∙ choose_no _ _ (ne_eqb kind 4 n4) ∙ choose_no _ _ (ne_eqb kind 5 n5) in
       test-clash (sym (ap (λ (x : T.Row). T.is_row x) none) ∙ may.is-row) refl)

@@ -12,7 +12,7 @@ use Rattle.lists.specs.Table.{update}
 use Rattle.lists.proofs.Tests.{either}
 use Rattle.event.specs.Event.{event, drain}
 use Rattle.trace.specs.Item.{shape, word, request, act}
-use Rattle.trace.specs.Table.{Row, no_row, first_row, kind-row}
+use Rattle.trace.specs.Table.{Row, no_row, first_row, kind_row}
 use Rattle.trace.specs.Table as T
 use Rattle.writing.specs.Rows.{Rows, kind_at, cell, picked, entry_of, entry, known}
 
@@ -46,8 +46,8 @@ cells_same r r' i i' same =
     (cons (λ t. known (act (drain (h1 t)))) nil))))
 
 pub entry-same : (r r' : Rows) (i i' : ℕ) → SameNumbers r r' i i' → entry r i ≡ entry r' i'
-unfolding entry kind-row cell entry_of
+unfolding entry kind_row cell entry_of
 entry-same r r' i i' same =
     let kind : kind_at r i ≡ kind_at r' i' = rw (add-zero (2 * i), add-zero (2 * i')) at (same.heads-are 0 (omega arith)) in
-    ap (λ (k : ℕ). entry_of (kind-row k) (cell r i)) kind
+    ap (λ (k : ℕ). entry_of (kind_row k) (cell r i)) kind
     ∙ first_any {P = λ (x : Row). entry_of x (cell r i) ≡ entry_of x (cell r' i')} (λ x. eqb (kind_at r' i') x.kind) refl (cells_same r r' i i' same)

@@ -14,7 +14,7 @@ use Rattle.view.specs.Inner.View.{View}
 use Rattle.results.specs.Inner.Copied.{value_in, values_in, mark_in, marks_in}
 use Rattle.lists.specs.Over.{over}
 use Rattle.lists.proofs.Over.{over-at}
-use Rattle.report.specs.Inner.Lines.{Printable, replies_in, orders_in, text-in}
+use Rattle.report.specs.Inner.Lines.{Printable, replies_in, orders_in, text_in}
 
 -- ---- a section looks only at the places below its count: a list copied over the front of an array gives the same lines as the list itself
 section-same : {lines line lines' line' : ℕ → List ℕ} → Section lines line → Section lines' line' →
@@ -62,7 +62,7 @@ module _ (v : View) (fits : Printable v) where
 pub printed-sections : (v : View) (words named : List ℕ) {before one two three after : List ℕ} {a b d r accesses merges rounds : ℕ} →
     Wrote before 0 (replies_in v) one a → Wrote one a (orders_in v) two b → Wrote two b (word_lines 256 words named) three d →
     accesses ≡ v.accesses → merges ≡ v.merges → rounds ≡ v.rounds → Wrote three d (count_lines accesses merges rounds) after r →
-    r ≤ length before → Printed (text-in v words named) before after r
+    r ≤ length before → Printed (text_in v words named) before after r
 unfolding accepted_text
 printed-sections v words named {three = three} {after = after} {d = d} {r = r} first second third accesses-are merges-are rounds-are last room =
     let counts : Wrote three d (count_lines v.accesses v.merges v.rounds) after r = rw (← accesses-are, ← merges-are, ← rounds-are) last in

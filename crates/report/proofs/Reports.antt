@@ -30,7 +30,7 @@ use Rattle.run.specs.Inner.Run.{items_in, Loading, RanTo}
 use Rattle.run.proofs.Results.{results_in, results-are}
 use Rattle.report.specs.Report.{named, text_of, reported, report}
 use Rattle.report.specs.Inner.Names.{Marked}
-use Rattle.report.specs.Inner.Lines.{Printable, text-in}
+use Rattle.report.specs.Inner.Lines.{Printable, text_in}
 use Rattle.report.specs.Written.{report_room, Reported}
 use Rattle.report.proofs.Names.{trace-named}
 
@@ -57,7 +57,7 @@ module _ {trace : List ℕ} {facts : Facts} {m words : List ℕ} (o : Loading tr
   report-accepted = ap reported o.verdict
 
 -- ---- and once it is run
-text-in : (n : ℕ) (v : View) (words names : List ℕ) → v.fixed.count ≡ n → text_of (results_in n v words) names ≡ text-in v words names
+text-in : (n : ℕ) (v : View) (words names : List ℕ) → v.fixed.count ≡ n → text_of (results_in n v words) names ≡ text_in v words names
 unfolding text_of
 text-in n v words names e = ap (text n) (length-below n (value_in v)) ∙ sym (ap (λ (k : ℕ). text k k) e)
   where
@@ -69,14 +69,14 @@ module _ {items : Items} {m words : List ℕ} (r : RanTo items m words) where
   pub ran-printable : Printable (view m)
   ran-printable = record { requests-few = omega (arith, r.count-is, r.requests-few); order-few = omega (arith, r.order-few, r.requests-few) }
 
-  text-ran : (names : List ℕ) → text_of (results_of items) names ≡ text-in (view m) words names
+  text-ran : (names : List ℕ) → text_of (results_of items) names ≡ text_in (view m) words names
   text-ran names = ap (λ (o : Results). text_of o names) (sym (results-are r)) ∙ text-in (length (requests_of items)) (view m) words names r.count-is
 
 pub printed-ran : {trace marks words m names m' words' out printed : List ℕ} {r : Answer} {facts : Facts} {n : ℕ} → Loaded trace r marks words m →
     Loading trace facts m words → Marked (view m).fixed.address facts.requests marks names → RanTo (items_in trace) m' words' →
-    Printed (text-in (view m') words' names) out printed n → Printed (report trace) out printed n
+    Printed (text_in (view m') words' names) out printed n → Printed (report trace) out printed n
 printed-ran {trace} {names = names} {m' = m'} {words' = words'} l o d ran w =
-    let same : report trace ≡ text-in (view m') words' names =
+    let same : report trace ≡ text_in (view m') words' names =
     report-accepted o ∙ ap (text_of (results_of (items_in trace))) (sym (trace-named l (requests-told o) d)) ∙ text-ran ran names in
     rw same w
 

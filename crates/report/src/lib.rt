@@ -5,7 +5,7 @@ ghost use Rattle.text.specs.Text.{line_room};
 ghost use Rattle.store.specs.Inner.Memory.{view};
 ghost use Rattle.report.specs.Report.{report as text};
 ghost use Rattle.report.specs.Inner.Names.{Marked};
-ghost use Rattle.report.specs.Inner.Lines.{Printable, replies_in, orders_in, text-in};
+ghost use Rattle.report.specs.Inner.Lines.{Printable, replies_in, orders_in, text_in};
 ghost use Rattle.report.specs.Written.{report_room, Reported};
 
 use store::{Machine, shape, tags};
@@ -69,7 +69,7 @@ fn name_requests(m: &Machine, n: usize, named: &mut [u8; 256])
 fn put_results(m: &Machine, memory: &[u64; 256], named: &[u8; 256], out: &mut [u8]) -> usize
     requires printable { Printable (view m.now) }
     requires report_room_in_bounds { report_room ≤ length out.old }
-    ensures { Printed (text-in (view m.now) memory.now named.now) out.old out.new result }
+    ensures { Printed (text_in (view m.now) memory.now named.now) out.old out.new result }
 {
     let orders = put_replies(m, out);
     let addresses = put_orders(m, out, orders);

@@ -12,7 +12,7 @@ use borrow.Author.Tests.{le-ltb, ne_eqb, ltb-false}
 use Rattle.lists.specs.Choice.{choose}
 use Rattle.lists.proofs.Tests.{clash}
 use Rattle.trace.specs.Bytes.{number}
-use Rattle.trace.specs.Table.{is_row, kind-row, body_row, item}
+use Rattle.trace.specs.Table.{is_row, kind_row, body_row, item}
 use Rattle.trace.specs.Records.{Split, nothing, faulty, whole, split, Records, done, broken, next, divided, records_up_to, records}
 use Rattle.trace.specs.Inner.Told.{RecordFits}
 use Rattle.trace.specs.Inner.Known.{listing, Bodied}
@@ -26,7 +26,7 @@ pub split_at : (s : List ℕ) (at : ℕ) →
     split (drop at s) ≡
     choose (eqb (length s - at) 0) nothing
     (choose (ltb (length s - at) 4) (faulty 1)
-    (choose (not (is_row (kind-row (number 2 s (at + 2))))) (faulty 2)
+    (choose (not (is_row (kind_row (number 2 s (at + 2))))) (faulty 2)
     (choose (not (is_row (body_row (number 2 s (at + 2)) (number 2 s at)))) (faulty 3)
     (choose (ltb (length s - at - 4) (number 2 s at)) (faulty 1)
     (whole (number 2 s (at + 2)) (take (number 2 s at) (drop (at + 4) s)))))))
@@ -49,7 +49,7 @@ pub header-split : {s : List ℕ} {at len kind : ℕ} → Header s at len kind �
 unfolding listing
 header-split {s} {at} {len} {kind} h told =
     simp (split_at, ne_eqb (length s - at) 0 (λ e. omega (arith, h.some)), le-ltb _ _ h.some, ← h.len_is, ← h.kind-is, told)
-    (go (is_row (kind-row kind)) (is_row (body_row kind len)))
+    (go (is_row (kind_row kind)) (is_row (body_row kind len)))
   where
     go : (t u : Bool) →
         choose (not t) (faulty 2) (choose (not u) (faulty 3) (choose (ltb (length s - at - 4) len) (faulty 1) (whole kind (take len (drop (at + 4) s)))))
@@ -61,7 +61,7 @@ header-split {s} {at} {len} {kind} h told =
 -- a row that is told has its section
 pub told_in : (kind len : ℕ) {section : ℕ} → In section ≡ listing kind len → (is_row (body_row kind len) ≡ true) × (section ≡ (body_row kind len).section)
 unfolding listing
-told_in kind len {section} told = go (is_row (kind-row kind)) (is_row (body_row kind len)) refl told
+told_in kind len {section} told = go (is_row (kind_row kind)) (is_row (body_row kind len)) refl told
   where
     go : (t u : Bool) → is_row (body_row kind len) ≡ u → In section ≡ choose t (choose u (In (body_row kind len).section) NoLength) NoKind →
         (is_row (body_row kind len) ≡ true) × (section ≡ (body_row kind len).section)
@@ -116,7 +116,7 @@ nothing_is : (s : List ℕ) → split s ≡ nothing → s ≡ []
 unfolding split
 nothing_is [] e = refl
 nothing_is (x ∷ s) e =
-    clash (go (ltb (suc (length s)) 4) (is_row (kind-row K)) (is_row (body_row K N)) (ltb (suc (length s) - 4) N)
+    clash (go (ltb (suc (length s)) 4) (is_row (kind_row K)) (is_row (body_row K N)) (ltb (suc (length s) - 4) N)
     (simp (ne_eqb (suc (length s)) 0 (λ z. omega arith)) at e))
   where
     K : ℕ
@@ -154,7 +154,7 @@ pub record Whole (s : List ℕ) (kind : ℕ) (b : List ℕ) : Type 0 where
 pub whole_is : (s : List ℕ) (kind : ℕ) (b : List ℕ) → split s ≡ whole kind b → Whole s kind b
 unfolding split
 whole_is s kind b e =
-    go (eqb (length s) 0) (ltb (length s) 4) (is_row (kind-row K)) (is_row (body_row K N)) (ltb (length s - 4) N) refl refl refl e
+    go (eqb (length s) 0) (ltb (length s) 4) (is_row (kind_row K)) (is_row (body_row K N)) (ltb (length s - 4) N) refl refl refl e
   where
     K : ℕ
     K = number 2 s 2
@@ -196,7 +196,7 @@ pub is_whole : {s : List ℕ} {kind : ℕ} {b : List ℕ} → Whole s kind b →
 unfolding split
 is_whole {s} {kind} {b} w =
     let told = row_told kind (length b) w.right in
-    let known : is_row (kind-row kind) ≡ true = rw (← told.kind-is) at (row-sizes _ told.right).known in
+    let known : is_row (kind_row kind) ≡ true = rw (← told.kind-is) at (row-sizes _ told.right).known in
     simp (
       w.kind-is,
       w.size_is,

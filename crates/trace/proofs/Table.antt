@@ -14,7 +14,7 @@ use Rattle.lists.proofs.Tests.{both_true, clash, test-clash}
 use Rattle.event.specs.Event.{Act, event, drain}
 use Rattle.trace.specs.Bytes.{number, fields_in, total}
 use Rattle.trace.specs.Item.{Word, Request, Item, shape, word, request, act}
-use Rattle.trace.specs.Table.{Row, shape_row, word_row, request_row, event_row, drain_row, rows, body_size, no_row, is_row, first_row, kind-row, body_row}
+use Rattle.trace.specs.Table.{Row, shape_row, word_row, request_row, event_row, drain_row, rows, body_size, no_row, is_row, first_row, kind_row, body_row}
 use Rattle.trace.specs.Table.{item, Parts, parts_of, row_of, section, record_size}
 use Rattle.trace.specs.Contents.{Contents, add}
 use Rattle.trace.specs.Inner.Known.{shape_in, word_in, request_in, event_in, Bodied, moved, moved_past}
@@ -26,7 +26,7 @@ use Rattle.trace.proofs.Fields.{length_fields}
 -- ---- what is right of a row
 -- its kind and its size fit in two bytes, a body is not empty, and it is a row
 abbrev sound : Row → Bool
-sound r = both (ltb r.kind 65536) (both (ltb (body_size r) 65536) (both (ltb 0 (body_size r)) (is_row (kind-row r.kind))))
+sound r = both (ltb r.kind 65536) (both (ltb (body_size r) 65536) (both (ltb 0 (body_size r)) (is_row (kind_row r.kind))))
 
 pub record RowRight (r : Row) : Type 0 where
   pub sizes : sound r ≡ true
@@ -61,7 +61,7 @@ right : (r : Row) → sound r ≡ true → is_row r ≡ true → body_row r.kind
 right r sizes is-row found back = record { sizes = sizes; is-row = is-row; found = found; back = back }
 
 rows_right : All RowRight rows
-unfolding rows kind-row body_row first_row total parts_of gather
+unfolding rows kind_row body_row first_row total parts_of gather
 rows_right =
     cons (right shape_row refl refl refl (with-fields shape_row 3))
     (cons (right word_row refl refl refl (with-fields word_row 2))
@@ -109,15 +109,15 @@ row_told kind len is =
     record { right = found.0; kind-is = eqb-true kind _ tests.0; size_is = eqb-true len _ tests.1 }
 
 -- ---- the row of a kind: what holds of each row holds of it
-pub kind-all : {P : Row → Type 0} → All P rows → (kind : ℕ) → is_row (kind-row kind) ≡ true → P (kind-row kind)
-unfolding kind-row
+pub kind-all : {P : Row → Type 0} → All P rows → (kind : ℕ) → is_row (kind_row kind) ≡ true → P (kind_row kind)
+unfolding kind_row
 kind-all ps kind is = (first-right (λ r. eqb kind r.kind) ps is).0
 
-pub kind-right : (kind : ℕ) → is_row (kind-row kind) ≡ true → RowRight (kind-row kind)
+pub kind-right : (kind : ℕ) → is_row (kind_row kind) ≡ true → RowRight (kind_row kind)
 kind-right = kind-all rows_right
 
-pub kind-found : (kind : ℕ) → is_row (kind-row kind) ≡ true → kind ≡ (kind-row kind).kind
-unfolding kind-row
+pub kind-found : (kind : ℕ) → is_row (kind_row kind) ≡ true → kind ≡ (kind_row kind).kind
+unfolding kind_row
 kind-found kind is = eqb-true kind _ (first-right (λ r. eqb kind r.kind) rows_right is).1
 
 -- and where there is none
@@ -131,8 +131,8 @@ none_found test (cons {x = r} {xs = rs} p ps) is = go (none_found test ps) (test
     go on true h = test-clash p.is-row h
     go on false h = on h
 
-pub kind-none : (kind : ℕ) → is_row (kind-row kind) ≡ false → kind-row kind ≡ no_row
-unfolding kind-row
+pub kind-none : (kind : ℕ) → is_row (kind_row kind) ≡ false → kind_row kind ≡ no_row
+unfolding kind_row
 kind-none kind = none_found (λ r. eqb kind r.kind) rows_right
 
 -- ---- each item
@@ -192,7 +192,7 @@ pub record RowSizes (r : Row) : Type 0 where
   pub kind-low : r.kind < 65536
   pub size_low : body_size r < 65536
   pub some : 0 < body_size r
-  pub known : is_row (kind-row r.kind) ≡ true
+  pub known : is_row (kind_row r.kind) ≡ true
 
 pub row-sizes : (r : Row) → RowRight r → RowSizes r
 row-sizes r right =

@@ -3,7 +3,7 @@ use Rattle.std.specs.Prelude.{ℕ, zero, suc, ◌+◌, ◌-◌, List, not, lengt
 use Rattle.lists.specs.Choice.{choose}
 use Rattle.trace.specs.Bytes.{number}
 use Rattle.trace.specs.Item.{Item}
-use Rattle.trace.specs.Table.{is_row, kind-row, body_row, item}
+use Rattle.trace.specs.Table.{is_row, kind_row, body_row, item}
 
 -- what stands where a record is due: nothing; a record that is faulty in itself, by its number; or a whole one, its kind and its body
 pub data Split : Type 0 where
@@ -16,7 +16,7 @@ unfoldable pub split : List ℕ → Split
 split bytes =
     choose (eqb (length bytes) 0) nothing
     (choose (ltb (length bytes) 4) (faulty 1)
-    (choose (not (is_row (kind-row (number 2 bytes 2)))) (faulty 2)
+    (choose (not (is_row (kind_row (number 2 bytes 2)))) (faulty 2)
     (choose (not (is_row (body_row (number 2 bytes 2) (number 2 bytes 0)))) (faulty 3)
     (choose (ltb (length bytes - 4) (number 2 bytes 0)) (faulty 1)
     (whole (number 2 bytes 2) (take (number 2 bytes 0) (drop 4 bytes)))))))

@@ -56,8 +56,8 @@ first_row test [] = no_row
 first_row test (r ∷ rs) = choose (test r) r (first_row test rs)
 
 -- a row of a kind; the row of a kind and a body's length together
-unfoldable pub kind-row : ℕ → Row
-kind-row kind = first_row (λ r. eqb kind r.kind) rows
+unfoldable pub kind_row : ℕ → Row
+kind_row kind = first_row (λ r. eqb kind r.kind) rows
 
 unfoldable pub body_row : ℕ → ℕ → Row
 body_row kind len = first_row (λ r. both (eqb kind r.kind) (eqb len (body_size r))) rows

@@ -11,7 +11,7 @@ use lib.Seq.{drop-cons}
 use borrow.Author.Tests.{ne_eqb}
 use Rattle.lists.specs.Table.{update}
 use Rattle.trace.specs.Bytes.{total}
-use Rattle.trace.specs.Table.{rows, first_row, body_size, kind-row}
+use Rattle.trace.specs.Table.{rows, first_row, body_size, kind_row}
 use Rattle.trace.specs.Write.{bytes, field_bytes}
 use Rattle.writing.specs.Rows.{Rows, kind_at, cell, picked}
 use Rattle.writing.specs.Inner.Records.{body_at, RowIn, Typed}
@@ -43,31 +43,31 @@ module _ {r : Rows} {i : ℕ} (typed : Typed r) (inside : RowIn r i) where
 
   -- ---- kind by kind
   pub body-shape : kind_at r i ≡ 1 → body_at r i ≡ ones 3
-  unfolding body_at rows first_row kind-row picked cell update field_bytes
+  unfolding body_at rows first_row kind_row picked cell update field_bytes
   body-shape k = rw (k, append-nil) three
 
   pub body-word : kind_at r i ≡ 2 → body_at r i ≡ ones 1 ++ bytes 8 (get_or r.words (8 * i + 0) 0)
-  unfolding body_at rows first_row kind-row picked cell update field_bytes
+  unfolding body_at rows first_row kind_row picked cell update field_bytes
   body-word k = rw (k, append-nil, one)
 
   pub body-request : kind_at r i ≡ 3 → body_at r i ≡ (ones 3 ++ bytes 8 (get_or r.words (8 * i + 0) 0)) ++ bytes 8 (get_or r.words (8 * i + 1) 0)
-  unfolding body_at rows first_row kind-row picked cell update field_bytes
+  unfolding body_at rows first_row kind_row picked cell update field_bytes
   body-request k = rw (k, append-nil, ← three) (simp append_assoc)
 
   pub body-event : kind_at r i ≡ 4 → body_at r i ≡ ones 3
-  unfolding body_at rows first_row kind-row picked cell update field_bytes
+  unfolding body_at rows first_row kind_row picked cell update field_bytes
   body-event k = rw (k, append-nil) three
 
   pub body-drain : kind_at r i ≡ 5 → body_at r i ≡ bytes 2 (get_or r.heads (2 * i + 1) 0)
-  unfolding body_at rows first_row kind-row picked cell update field_bytes
+  unfolding body_at rows first_row kind_row picked cell update field_bytes
   body-drain k = rw (k, append-nil, add-zero)
 
 -- a kind that there is none of
 pub body-none : (r : Rows) (i : ℕ) → kind_at r i ≢ 1 → kind_at r i ≢ 2 → kind_at r i ≢ 3 → kind_at r i ≢ 4 → kind_at r i ≢ 5 → body_at r i ≡ []
-unfolding body_at rows first_row kind-row picked field_bytes
+unfolding body_at rows first_row kind_row picked field_bytes
 body-none r i n₁ n₂ n₃ n₄ n₅ = simp (ne_eqb _ _ n₁, ne_eqb _ _ n₂, ne_eqb _ _ n₃, ne_eqb _ _ n₄, ne_eqb _ _ n₅)
 
 -- the sizes of the bodies
-pub kind-sizes : (body_size (kind-row 1) ≡ 3) × (body_size (kind-row 2) ≡ 9) × (body_size (kind-row 3) ≡ 19) × (body_size (kind-row 4) ≡ 3) × (body_size (kind-row 5) ≡ 2)
-unfolding rows first_row kind-row total
+pub kind-sizes : (body_size (kind_row 1) ≡ 3) × (body_size (kind_row 2) ≡ 9) × (body_size (kind_row 3) ≡ 19) × (body_size (kind_row 4) ≡ 3) × (body_size (kind_row 5) ≡ 2)
+unfolding rows first_row kind_row total
 kind-sizes = (refl, refl, refl, refl, refl)

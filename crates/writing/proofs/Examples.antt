@@ -45,7 +45,7 @@ event what level p = line 4 (what ∷ level ∷ p ∷ []) []
 -- the result of writing rows; to unfold it is to unfold every definition of the writer
 written : Rows → ℕ → Result
 unfolding result W.told_by W.check_list W.records_of W.list_size W.entry_size W.count entries R.entry R.entry_of R.picked R.cell R.row_count
-    I.rows I.first_row I.kind-row I.parts_of I.record_size I.size B.total C.add C.contents C.last_section K.check_records K.decide K.ended
+    I.rows I.first_row I.kind_row I.parts_of I.record_size I.size B.total C.add C.contents C.last_section K.check_records K.decide K.ended
     F.fault F.own_fault F.or_else F.may_follow F.shape_fits F.request_fits operands_fit level_fits names_step update list_below some
 written list room = result (entries list) room
 

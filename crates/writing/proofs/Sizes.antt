@@ -13,7 +13,7 @@ use Rattle.lists.specs.Search.{All, nil, cons}
 use Rattle.lists.specs.Table.{list_below}
 use Rattle.lists.proofs.Tests.{by_cases}
 use Rattle.trace.specs.Bytes.{total}
-use Rattle.trace.specs.Table.{Row, rows, body_size, is_row, kind-row}
+use Rattle.trace.specs.Table.{Row, rows, body_size, is_row, kind_row}
 use Rattle.trace.proofs.Table.{kind-all, kind-none}
 use Rattle.writing.specs.Rows.{Rows, entry}
 use Rattle.writing.specs.Writing.{list_size}
@@ -22,7 +22,7 @@ use Rattle.writing.proofs.Entries.{entry-size}
 use Rattle.writing.proofs.Lists.{size-append}
 
 -- one row more; no fewer bytes with more rows; and the size of the list that the rows say
-pub size-more : (heads : List ℕ) (i : ℕ) → size_to heads (i + 1) ≡ size_to heads i + (4 + body_size (kind-row (get_or heads (2 * i) 0)))
+pub size-more : (heads : List ℕ) (i : ℕ) → size_to heads (i + 1) ≡ size_to heads i + (4 + body_size (kind_row (get_or heads (2 * i) 0)))
 unfolding size_to
 size-more heads i = rw (add-one i)
 
@@ -44,10 +44,10 @@ rows_few : All (λ (row : Row). ltb (body_size row) 20 ≡ true) rows
 unfolding rows total
 rows_few = cons refl (cons refl (cons refl (cons refl (cons refl nil))))
 
-pub body-few : (kind : ℕ) → body_size (kind-row kind) < 20
+pub body-few : (kind : ℕ) → body_size (kind_row kind) < 20
 unfolding total
-body-few kind = go (is_row (kind-row kind)) refl
+body-few kind = go (is_row (kind_row kind)) refl
   where
-    go : (t : Bool) → is_row (kind-row kind) ≡ t → body_size (kind-row kind) < 20
+    go : (t : Bool) → is_row (kind_row kind) ≡ t → body_size (kind_row kind) < 20
     go true e = ltb-true _ _ (kind-all rows_few kind e)
     go false e = rw (kind-none kind e) (omega arith)

@@ -3,7 +3,7 @@ use Rattle.std.specs.Prelude.{ℕ, zero, suc, ◌+◌, ◌*◌, ◌/◌, min, Li
 use Rattle.lists.specs.Choice.{choose}
 use Rattle.lists.specs.Table.{update, list_below}
 use Rattle.trace.specs.Item.{Item}
-use Rattle.trace.specs.Table.{Row, is_row, kind-row}
+use Rattle.trace.specs.Table.{Row, is_row, kind_row}
 
 -- numbers of two bytes, 2 a row, the record's kind first; of one byte, 10 a row; of eight bytes, 8 a row
 pub record Rows : Type 0 where
@@ -43,7 +43,7 @@ unfoldable pub entry_of : Row → (ℕ → ℕ → ℕ) → Entry
 entry_of row cells = choose (is_row row) (known (row.make (picked cells (λ width. zero) row.widths))) unknown
 
 unfoldable pub entry : Rows → ℕ → Entry
-entry r i = entry_of (kind-row (kind_at r i)) (cell r i)
+entry r i = entry_of (kind_row (kind_at r i)) (cell r i)
 
 -- the list, in its order
 unfoldable pub entries : Rows → List Entry

@@ -5,7 +5,7 @@ use native.Mathlib.Numerals.{add-one}
 use native.Mathlib.Omega.{arith}
 use lib.ListN.{length}
 use borrow.Author.Rules.{rules}
-use Rattle.trace.specs.Table.{kind-row}
+use Rattle.trace.specs.Table.{kind_row}
 use Rattle.lines.specs.Inner.Read.{FieldsRead}
 use Rattle.lines.proofs.Spans.{fields-end, fields-next}
 use Rattle.lines.proofs.Rows.{few-fields}
@@ -34,7 +34,7 @@ add-t16 c = let d = c.before.before.before in
 
 returns : tie.Need-returns invariant-loop decreases-loop
 returns c = let d = c.before.before.before in
-    let under : d.loop.place < length (kind-row d.before.before.before.args.kind).widths =
+    let under : d.loop.place < length (kind_row d.before.before.before.args.kind).widths =
     omega (arith, c.before.before.loop-test.true, d.before.field-count.ensures) in
     rw add-one (fields-missing _ _ _ d.loop.invariant under (fields-end _ _ _ c.before.past-spaces.ensures.0 (omega (arith, c.if1.true))))
 
@@ -52,7 +52,7 @@ part-field-told-end c = omega (arith, c.past-field.ensures.0, c.past-field.ensur
 
 returns-2 : tie.Need-returns-2 invariant-loop decreases-loop
 returns-2 c = let l = c.before.before.before.before.before.before.before.before.before in
-    let under : l.loop.place < length (kind-row l.before.before.before.args.kind).widths =
+    let under : l.loop.place < length (kind_row l.before.before.before.args.kind).widths =
     omega (arith, c.before.before.before.before.before.before.before.before.loop-test.true, l.before.field-count.ensures) in
     let begins = c.before.before.before.before.before.before.before.past-spaces.ensures in
     let some : c.before.before.before.before.before.before.before.past-spaces.result < length l.before.before.before.args.line.now =
@@ -81,7 +81,7 @@ element-write-values c = let l = c.before.before.before.before.before.before.bef
 
 loop-again : tie.Need-loop-preserved invariant-loop decreases-loop
 loop-again c = let l = c.before.before.before.before.before.before.before.before.before in
-    let under : l.loop.place < length (kind-row l.before.before.before.args.kind).widths =
+    let under : l.loop.place < length (kind_row l.before.before.before.args.kind).widths =
     omega (arith, c.before.before.before.before.before.before.before.before.loop-test.true, l.before.field-count.ensures) in
     let begins = c.before.before.before.before.before.before.before.past-spaces.ensures in
     let some : c.before.before.before.before.before.before.before.past-spaces.result < length l.before.before.before.args.line.now =
@@ -96,14 +96,14 @@ add-t28 c = let l = c.before.before.before in
 
 returns-3 : tie.Need-returns-3 invariant-loop decreases-loop
 returns-3 c = let l = c.before.before.before in
-    let over : length (kind-row l.before.before.before.args.kind).widths ≤ l.loop.place =
+    let over : length (kind_row l.before.before.before.args.kind).widths ≤ l.loop.place =
     omega (arith, c.before.before.loop-test.false, l.before.field-count.ensures) in
     let same : l.loop.place ≡ l.before.field-count.result = omega (arith, over, l.loop.invariant.many, l.before.field-count.ensures) in
     rw (add-one, ← same) (fields-extra _ _ _ l.loop.invariant over _ _ (fields-next _ _ _ c.before.past-spaces2.ensures.0 _ c.if2.true refl))
 
 returns-4 : tie.Need-returns-4 invariant-loop decreases-loop
 returns-4 c = let l = c.before.before.before in
-    let over : length (kind-row l.before.before.before.args.kind).widths ≤ l.loop.place =
+    let over : length (kind_row l.before.before.before.args.kind).widths ≤ l.loop.place =
     omega (arith, c.before.before.loop-test.false, l.before.field-count.ensures) in
     fields-all _ _ _ l.loop.invariant l.before.before.before.requires.2 (omega (arith, over, l.loop.invariant.many))
     (fields-end _ _ _ c.before.past-spaces2.ensures.0 c.if2.false)

@@ -2,7 +2,7 @@
 use Rattle.std.specs.Prelude.{ℕ, suc, ◌^◌, List, [], ◌∷◌, length, get_or, ltb}
 use Rattle.lists.specs.Choice.{choose}
 use Rattle.digits.specs.Numeral.{value_in, is_decimal}
-use Rattle.trace.specs.Table.{kind-row}
+use Rattle.trace.specs.Table.{kind_row}
 use Rattle.lines.specs.Forms.{names_at, place_in}
 use Rattle.lines.specs.Said.{Values, wrong, behind}
 use Rattle.lines.specs.declared.Reason.TheVariants.{NoNumber, TooLarge}
@@ -26,7 +26,7 @@ field_told names bound field = choose (ltb (place_in field names) (length names)
 
 -- how many bytes a field of a kind's record has
 unfoldable pub width_at : ℕ → ℕ → ℕ
-width_at kind place = get_or (kind-row kind).widths place 0
+width_at kind place = get_or (kind_row kind).widths place 0
 
 -- of a field of a kind's record
 abbrev pub told_at : ℕ → ℕ → List ℕ → Told

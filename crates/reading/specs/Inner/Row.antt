@@ -1,16 +1,16 @@
 -- What the storing of an item in a row asks and promises.
 use Rattle.std.specs.Prelude.{ℕ, ◌+◌, ◌*◌, ◌<◌, ◌≡◌, ◌≢◌, true, List, length, get_or, take, set}
 use Rattle.trace.specs.Item.{Item}
-use Rattle.trace.specs.Table.{is_row, kind-row}
+use Rattle.trace.specs.Table.{is_row, kind_row}
 use Rattle.trace.specs.Inner.Fits.{FieldsFit}
 use Rattle.writing.specs.Rows.{Rows, rows, row_count, known, entry}
 
 -- the numbers of a kind's fields: the first of those that were read, and the item with them
 abbrev pub fields_of : ℕ → List ℕ → List ℕ
-fields_of kind values = take (length (kind-row kind).widths) values
+fields_of kind values = take (length (kind_row kind).widths) values
 
 abbrev pub item_of : ℕ → List ℕ → Item
-item_of kind values = (kind-row kind).make (fields_of kind values)
+item_of kind values = (kind_row kind).make (fields_of kind values)
 
 -- ---- what is stored
 abbrev pub three_set : List ℕ → ℕ → List ℕ → List ℕ
@@ -22,8 +22,8 @@ two_set l at values = set (set l at (get_or values 3 0)) (at + 1) (get_or values
 -- ---- the row
 -- a kind that the table has, and numbers that fit its fields
 pub record MayKeep (kind : ℕ) (values : List ℕ) : Type 0 where
-  pub is-row : is_row (kind-row kind) ≡ true
-  pub fit : FieldsFit (kind-row kind).widths (fields_of kind values)
+  pub is-row : is_row (kind_row kind) ≡ true
+  pub fit : FieldsFit (kind_row kind).widths (fields_of kind values)
   pub five : length values ≡ 5
 
 pub record MayPut (kind : ℕ) (values : List ℕ) (i : ℕ) (r : Rows) : Type 0 where

@@ -17,7 +17,7 @@ abbrev pub orders_in : View → List ℕ
 orders_in v = order_lines (length v.order) v.order
 
 -- and the whole text
-abbrev pub text-in : View → List ℕ → List ℕ → List ℕ
-text-in v words named =
+abbrev pub text_in : View → List ℕ → List ℕ → List ℕ
+text_in v words named =
     let count = v.fixed.count in
     accepted_text count (values_in v count) (marks_in v count) (length v.order) v.order words named v.accesses v.merges v.rounds

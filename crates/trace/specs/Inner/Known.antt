@@ -5,7 +5,7 @@ use Rattle.lists.specs.Choice.{choose}
 use Rattle.event.specs.Event.{Event}
 use Rattle.trace.specs.Bytes.{number}
 use Rattle.trace.specs.Item.{Shape, Word, Request, Item, Items, after}
-use Rattle.trace.specs.Table.{body_size, is_row, kind-row, body_row, row_of, section, record_size, size}
+use Rattle.trace.specs.Table.{body_size, is_row, kind_row, body_row, row_of, section, record_size, size}
 use Rattle.trace.specs.Records.{records}
 use Rattle.trace.specs.Contents.{contents, shape_of, words_given, requests_of, given, last_section, acts_offset}
 use Rattle.trace.specs.Refusals.{own_fault, fault}
@@ -32,7 +32,7 @@ event_in b = record { what = get_or b 0 0; level = get_or b 1 0; position = get_
 
 -- what the table says of a kind and a body's length
 unfoldable pub listing : ℕ → ℕ → Listed
-listing kind len = choose (is_row (kind-row kind)) (choose (is_row (body_row kind len)) (In (body_row kind len).section) NoLength) NoKind
+listing kind len = choose (is_row (kind_row kind)) (choose (is_row (body_row kind len)) (In (body_row kind len).section) NoLength) NoKind
 
 -- a body of a kind and length that the table has
 pub record Bodied (kind section : ℕ) (b : List ℕ) : Type 0 where

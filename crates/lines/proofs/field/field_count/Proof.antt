@@ -1,23 +1,23 @@
 -- `field_count` meets its contract: the arms are the rows of the table.
-use Rattle.trace.specs.Table.{rows, first_row, kind-row}
+use Rattle.trace.specs.Table.{rows, first_row, kind_row}
 use Rattle.lines.proofs.Rows.{one_field}
 use Rattle.lines.proofs.field.field_count.Statement.{statement}
 use Rattle.lines.proofs.field.field_count.Tie as tie
 
 returns : tie.Need-returns
-unfolding kind-row first_row rows
+unfolding kind_row first_row rows
 returns c = rw c.match.keys1
 
 returns-2 : tie.Need-returns-2
-unfolding kind-row first_row rows
+unfolding kind_row first_row rows
 returns-2 c = rw c.match.keys2
 
 returns-3 : tie.Need-returns-3
-unfolding kind-row first_row rows
+unfolding kind_row first_row rows
 returns-3 c = rw c.match.keys3
 
 returns-4 : tie.Need-returns-4
-unfolding kind-row first_row rows
+unfolding kind_row first_row rows
 returns-4 c = rw c.match.keys4
 
 returns-5 : tie.Need-returns-5

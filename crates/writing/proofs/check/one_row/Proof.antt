@@ -5,7 +5,7 @@ use mathlib.Core.Bool.{true, not}
 use native.Mathlib.Omega.{arith}
 use borrow.Author.Tests.{eq-eqb, ne_eqb}
 use borrow.Author.Rules.{rules}
-use Rattle.trace.specs.Table.{is_row, kind-row}
+use Rattle.trace.specs.Table.{is_row, kind_row}
 use Rattle.writing.specs.Rows.{Rows, rows, kind_at}
 use Rattle.writing.specs.declared.record.Kind.{Kind}
 use Rattle.writing.specs.Inner.Records.{row_at, body_at, Typed}
@@ -22,7 +22,7 @@ lent d = rows d.args.heads.now d.args.bytes.now d.args.words.now
 
 -- the section that is told of the kind is the table's
 section-is : (c : tie.After-kind-of) → let d = c.before.before.before.before.before in c.kind-of.result.section ≡ (row_at (lent d) d.args.i).section
-section-is c = ap (λ (k : Kind). k.section) c.kind-of.ensures ∙ ap (λ (k : ℕ). (kind-row k).section) c.before.kind_at.ensures
+section-is c = ap (λ (k : Kind). k.section) c.kind-of.ensures ∙ ap (λ (k : ℕ). (kind_row k).section) c.before.kind_at.ensures
 
 -- a section that is not 0: there is a row of the kind
 row-there : (c : tie.Else1) → let d = c.before.before.before.before.before.before.before in is_row (row_at (lent d) d.args.i) ≡ true

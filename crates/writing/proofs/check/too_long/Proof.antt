@@ -5,7 +5,7 @@ use native.Mathlib.Omega.{arith}
 use lib.ListN.{get_or}
 use borrow.Author.Tests.{lt-ltb, le-ltb}
 use borrow.Author.Rules.{rules}
-use Rattle.trace.specs.Table.{body_size, kind-row}
+use Rattle.trace.specs.Table.{body_size, kind_row}
 use Rattle.writing.specs.declared.record.Kind.{Kind}
 use Rattle.writing.specs.Inner.Sizes.{size_to}
 use Rattle.writing.proofs.Sizes.{size-more, size-grows, body-few}
@@ -23,7 +23,7 @@ unfolding size_to
 loop-holds c = (omega arith, refl, omega arith)
 
 -- the size of the record of row i, and of the rows up to it
-told-size : (c : tie.After-struct-known invariant-loop decreases-loop) → c.before.kind-of.result.size ≡ body_size (kind-row c.before.before.kind_at.result)
+told-size : (c : tie.After-struct-known invariant-loop decreases-loop) → c.before.kind-of.result.size ≡ body_size (kind_row c.before.before.kind_at.result)
 told-size c = ap (λ (k : Kind). k.size) c.before.kind-of.ensures
 
 size-on : (c : tie.After-struct-known invariant-loop decreases-loop) →
@@ -33,8 +33,8 @@ size-on c =
     let l = c.before.before.before.before.loop in
     let heads = c.before.before.before.before.before.before.args.heads.now in
     let more = size-more heads l.i in
-    let told : c.before.kind-of.result.size ≡ body_size (kind-row (get_or heads (2 * l.i) 0)) =
-    told-size c ∙ ap (λ (k : ℕ). body_size (kind-row k)) c.before.before.kind_at.ensures in
+    let told : c.before.kind-of.result.size ≡ body_size (kind_row (get_or heads (2 * l.i) 0)) =
+    told-size c ∙ ap (λ (k : ℕ). body_size (kind_row k)) c.before.before.kind_at.ensures in
     omega (arith, more, told, l.invariant.1)
 
 add-size-2 : tie.Need-overflow-add-size-2 invariant-loop decreases-loop

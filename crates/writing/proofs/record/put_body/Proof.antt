@@ -5,7 +5,7 @@ use native.Mathlib.Omega.{arith}
 use lib.ListN.{length, get_or, take, drop, length-append}
 use borrow.Author.Rules.{rules}
 use Rattle.digits.proofs.Buffer.{wrote_nothing, wrote_then}
-use Rattle.trace.specs.Table.{body_size, kind-row}
+use Rattle.trace.specs.Table.{body_size, kind_row}
 use Rattle.trace.specs.Write.{bytes}
 use Rattle.trace.proofs.Numbers.{length-bytes}
 use Rattle.writing.specs.Rows.{Rows, rows, kind_at}
@@ -37,10 +37,10 @@ kind-is : (c : tie.After-kind-at) (k : ℕ) → c.kind_at.result ≡ k → kind_
 kind-is c k e = sym c.kind_at.ensures ∙ e
 
 -- the output has room for the body of a kind
-room : (c : tie.After-kind-at) (k n : ℕ) → c.kind_at.result ≡ k → body_size (kind-row k) ≡ n →
+room : (c : tie.After-kind-at) (k n : ℕ) → c.kind_at.result ≡ k → body_size (kind_row k) ≡ n →
     c.before.before.before.before.before.args.at + n ≤ length c.before.before.before.before.before.args.out.now
 room c k n e size =
-    let told : body_size (row_at (lent c) (place c)) ≡ n = ap (λ (m : ℕ). body_size (kind-row m)) (kind-is c k e) ∙ size in
+    let told : body_size (row_at (lent c) (place c)) ≡ n = ap (λ (m : ℕ). body_size (kind_row m)) (kind-is c k e) ∙ size in
     omega (arith, c.before.before.before.before.before.requires.1, told)
 
 put-ones-requires : tie.Need-put-ones-requires

@@ -5,7 +5,7 @@ use native.Mathlib.Omega.{arith}
 use lib.ListN.{length-append}
 use borrow.Author.Rules.{rules}
 use Rattle.digits.proofs.Buffer.{wrote_then}
-use Rattle.trace.specs.Table.{body_size, kind-row}
+use Rattle.trace.specs.Table.{body_size, kind_row}
 use Rattle.trace.specs.Write.{bytes}
 use Rattle.trace.proofs.Numbers.{length-bytes}
 use Rattle.writing.specs.declared.record.Kind.{Kind}
@@ -25,7 +25,7 @@ place c = c.before.before.before.before.before.args.i
 
 -- the size that is told of the kind is the table's
 size_is : (c : tie.After-kind-of) → c.kind-of.result.size ≡ body_size (row_at (lent c.before) (place c.before))
-size_is c = ap (λ (k : Kind). k.size) c.kind-of.ensures ∙ ap (λ k. body_size (kind-row k)) c.before.kind_at.ensures
+size_is c = ap (λ (k : Kind). k.size) c.kind-of.ensures ∙ ap (λ k. body_size (kind_row k)) c.before.kind_at.ensures
 
 put-number-requires-2 : tie.Need-put-number-requires-2
 put-number-requires-2 c κs = let first = c.before.before.before in let d = first.before.before.before.before.before.before.before.before in
