@@ -1,0 +1,9 @@
+-- `requests_in` meets its contract: a word of the shape.
+use mathlib.Core.Path.{refl}
+use borrow.Author.Rules.{rules}
+use Rattle.store.specs.Inner.Memory.{view, fixed_in}
+use Rattle.store.proofs.shape.requests_in.Goals as goal
+
+pub returns : goal.returns
+unfolding view fixed_in
+returns c = refl

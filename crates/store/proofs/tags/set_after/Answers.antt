@@ -1,0 +1,8 @@
+-- `set_after` meets its contract: a head with another next request.
+use borrow.Author.Rules.{rules}
+use Rattle.store.proofs.Tagged.{after-set}
+use Rattle.store.proofs.tags.set_after.Goals as goal
+
+pub returns : goal.returns
+returns c =
+    after-set c.args.m.now c.requires.m_len c.args.t c.requires.t_bound.0 c.args.n c.with_after.result c.requires.t_bound.1 c.with_after.ensures
