@@ -14,4 +14,3 @@ pub mod Masks
 pub mod Events
 pub mod Runs
 pub mod Answers
-pub mod Held

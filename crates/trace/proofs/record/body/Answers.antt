@@ -1,0 +1,7 @@
+-- `body` meets its contract: the part of the trace behind the header.
+use native.Mathlib.Nat.{add-sub_cancel_left}
+use borrow.Author.Rules.{rules}
+use Rattle.trace.proofs.record.body.Goals as goal
+
+pub returns : goal.returns
+returns c = rw add-sub_cancel_left
