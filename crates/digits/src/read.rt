@@ -4,7 +4,7 @@ ghost use Rattle.digits.specs.Numeral.{is_decimal};
 ghost use Rattle.digits.specs.Inner.Value.{spelled};
 
 // No number in decimal; one that does not fit in 64 bits; or the number.
-#[derive(Drop)]
+#[derive(Clone, Copy)]
 pub enum Spelled {
     NoNumber,
     TooLarge,

@@ -6,7 +6,7 @@ ghost use Rattle.input.specs.Inner.Told.{NoneUnended};
 use libc::STDIN_FILENO;
 
 // Whether the end of the input, or of the room, was reached, and how many bytes were read.
-#[derive(Drop)]
+#[derive(Clone, Copy)]
 pub struct Input {
     pub ended: bool,
     pub len: usize,

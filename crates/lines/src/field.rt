@@ -9,7 +9,7 @@ use crate::names::Named;
 use digits::read::Spelled;
 
 // What is wrong with a field, or its number.
-#[derive(Drop)]
+#[derive(Clone, Copy)]
 pub enum Told {
     Bad(Reason),
     Value(u64),

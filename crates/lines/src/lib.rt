@@ -12,7 +12,7 @@ mod names;
 
 // Why a line is no item: no record has its first field for a name; or a field of the record is not there, is one too many, is no
 // number, or is one that its bytes do not hold.
-#[derive(Drop)]
+#[derive(Clone, Copy)]
 pub enum Reason {
     Name,
     Missing,
@@ -23,7 +23,7 @@ pub enum Reason {
 
 // What a line says: nothing; an item of a kind, whose numbers stand at the front of the values; or that it is no item, why, and the
 // field, 0 for the name.
-#[derive(Drop)]
+#[derive(Clone, Copy)]
 pub enum Said {
     Skipped,
     Item(u16),

@@ -8,7 +8,7 @@ ghost use Rattle.lines.specs.Inner.Told.{named_in};
 use crate::bounds::{past_field, past_spaces};
 
 // The number that a name stands for, where it stands for one.
-#[derive(Drop)]
+#[derive(Clone, Copy)]
 pub enum Named {
     Nothing,
     Number(u64),

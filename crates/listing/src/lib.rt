@@ -16,7 +16,7 @@ mod item;
 pub const ROOM: usize = 262144;
 
 // Whether the buffer has room for every listing, and the length of the listing.
-#[derive(Drop)]
+#[derive(Clone, Copy)]
 pub struct Printed {
     pub fits: bool,
     pub len: usize,

@@ -13,7 +13,7 @@ use trace::reader::head_due;
 use trace::record::{Head, body};
 use trace::rules::{Finding, record_fault, request_fault};
 
-#[derive(Drop)]
+#[derive(Clone, Copy)]
 pub enum Turn {
     Stop,
     Fail(Fault),

@@ -62,10 +62,10 @@ module _ (S : Setup) where
   served-parts l g t [] v h = (h, nil)
   served-parts l g t (r ∷ rs) v h = let z = served-parts l g (join t r.operation (g r.second)) rs v h in (z.0.0, cons z.0.1 z.1)
 
-  parts-served : (l : List (Reply S)) (g : ℕ → Tree S) (t : Tree S) {rs : List (WaitRecord S)} (v : Word) → Served l t v
+  parts-served : (l : List (Reply S)) (g : ℕ → Tree S) (v : Word) (t : Tree S) {rs : List (WaitRecord S)} → Served l t v
       → All (λ (r : WaitRecord S). Served l (g r.second) (apply r.operation v)) rs → Served l (grown S g t rs) v
-  parts-served l g t v h nil = h
-  parts-served l g t v h (cons {x = r} {xs = rs} k ks) = parts-served l g (join t r.operation (g r.second)) v (h, k) ks
+  parts-served l g v t h nil = h
+  parts-served l g v t h (cons {x = r} {xs = rs} k ks) = parts-served l g v (join t r.operation (g r.second)) (h, k) ks
 
   -- a record that goes: its second is served, and its first still is
   module _ (waits : Waits S) (s p : ℕ) (xs : List (WaitRecord S)) (z : WaitRecord S) (ys : List (WaitRecord S)) (is : waits (suc s) p ≡ xs ++ (z ∷ ys)) where
@@ -90,7 +90,7 @@ module _ (S : Setup) where
       pub gone-first : Served l (tree_of S (update2 waits (suc s) p (xs ++ ys)) (suc s) z.first) v
       unfolding tree_of
       gone-first = rw (on, update2-same, records-append S, fun_ext (λ u. gone-below S waits s p (xs ++ ys) s u (omega arith)))
-          (parts-served l (tree_of S waits s) (tree_of S waits s z.first) v parts.0
+          (parts-served l (tree_of S waits s) v (tree_of S waits s z.first) parts.0
           (all_append (all_left before _ parts.1) (all_tail (all_right before parts.1))))
 
   -- the value of a served tree is what the request at its root reads

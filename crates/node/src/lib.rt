@@ -10,20 +10,20 @@ use operation::Merged;
 use queue::{Pairs, Place, Tags};
 use store::{Machine, tags};
 
-#[derive(Drop)]
+#[derive(Clone, Copy)]
 pub struct Node {
     pub queue: Tags,
     pub waiting: Pairs,
 }
 
-#[derive(Drop)]
+#[derive(Clone, Copy)]
 pub enum Outcome {
     Merged,
     Appended,
     Refused,
 }
 
-#[derive(Drop)]
+#[derive(Clone, Copy)]
 pub struct Arrived {
     pub node: Node,
     pub outcome: Outcome,

@@ -2,7 +2,7 @@
 ghost use Rattle.std.specs.Prelude.{◌≡◌};
 ghost use Rattle.operation.specs.Operation.{sum, applied, merged, operation_of, words_of, operands_fit};
 
-#[derive(Drop)]
+#[derive(Clone, Copy)]
 pub enum Operation {
     Load,
     Swap(u64),
@@ -10,14 +10,14 @@ pub enum Operation {
     Mask(u64, u64),
 }
 
-#[derive(Drop)]
+#[derive(Clone, Copy)]
 pub enum Merged {
     One(Operation),
     Never,
 }
 
 // An operation as a request record gives it.
-#[derive(Drop)]
+#[derive(Clone, Copy)]
 pub struct Words {
     pub code: u64,
     pub first: u64,

@@ -7,21 +7,21 @@ ghost use Rattle.lists.specs.Inner.Pair.{Pair};
 ghost use Rattle.queue.specs.Inner.Queue.{tags_of, pairs_of, HeldTags, HeldPairs, found_at};
 
 // A request queue or a reply queue: the youngest tag in the lowest byte.
-#[derive(Drop)]
+#[derive(Clone, Copy)]
 pub struct Tags {
     pub items: u64,
     pub len: usize,
 }
 
 // A wait buffer: first tags and second tags, those of the oldest record in the lowest bytes.
-#[derive(Drop)]
+#[derive(Clone, Copy)]
 pub struct Pairs {
     pub firsts: u64,
     pub seconds: u64,
     pub len: usize,
 }
 
-#[derive(Drop)]
+#[derive(Clone, Copy)]
 pub enum Place {
     At(usize),
     Nowhere,

@@ -12,7 +12,7 @@ pub mod line;
 pub mod row;
 
 // What came of a text: how many rows say items; or the first line that is no item, counted from 1, why, and the field.
-#[derive(Drop)]
+#[derive(Clone, Copy)]
 pub enum Answer {
     Items(usize),
     Wrong(usize, Reason, usize),

@@ -15,7 +15,7 @@ use trace::Answer;
 pub const ROOM: usize = 49344;
 
 // Whether the buffer has room for every report, and the length of the report.
-#[derive(Drop)]
+#[derive(Clone, Copy)]
 pub struct Written {
     pub fits: bool,
     pub len: usize,

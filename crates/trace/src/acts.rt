@@ -9,7 +9,7 @@ pub const EVENT_SIZE: usize = 7;
 pub const DRAIN_SIZE: usize = 6;
 
 // What stands where the next act is due: the end; an event's what, level and position; or a drain's most rounds.
-#[derive(Drop)]
+#[derive(Clone, Copy)]
 pub enum Due {
     End,
     Event(u8, u8, u8),

@@ -15,7 +15,7 @@ pub mod rules;
 pub const LONGEST: usize = 65536;
 
 // What a trace is refused for, in the order of the paper's numbers, from 1.
-#[derive(Drop)]
+#[derive(Clone, Copy)]
 pub enum Fault {
     Cut,
     Kind,
@@ -30,7 +30,7 @@ pub enum Fault {
 }
 
 // What an accepted trace says of itself: its shape, how many requests it has, and the offset of its first act.
-#[derive(Drop)]
+#[derive(Clone, Copy)]
 pub struct Facts {
     pub k: u8,
     pub q: u8,
@@ -39,7 +39,7 @@ pub struct Facts {
     pub acts_at: usize,
 }
 
-#[derive(Drop)]
+#[derive(Clone, Copy)]
 pub enum Answer {
     Refused(Fault, usize),
     Accepted(Facts),

@@ -3,7 +3,7 @@ ghost use Rattle.std.specs.Prelude.{◌≡◌, ◌≤◌, length, set};
 ghost use Rattle.trace.specs.Table.{item};
 ghost use Rattle.trace.specs.Inner.Known.{shape_in, begun, moved, shaped, asked, MayNote, Noted};
 
-#[derive(Drop)]
+#[derive(Clone, Copy)]
 pub struct Progress {
     pub at: usize,
     pub section: u8,

@@ -5,7 +5,7 @@ ghost use Rattle.trace.specs.Inner.Told.{HeadRead};
 
 use crate::record::{Head, head_at};
 
-#[derive(Drop)]
+#[derive(Clone, Copy)]
 pub struct Reader<'a> {
     pub src: &'a [u8],
     pub at: usize,

@@ -9,7 +9,7 @@ use crate::Fault;
 use crate::bytes::number2;
 
 // What stands where a record is due: the end, a fault, or a record with its kind, its section and the size of its body.
-#[derive(Drop)]
+#[derive(Clone, Copy)]
 pub enum Head {
     End,
     Bad(Fault),
@@ -17,7 +17,7 @@ pub enum Head {
 }
 
 // What the table of records says of a kind and a body's length: no such kind, no such length, or the section of the row.
-#[derive(Drop)]
+#[derive(Clone, Copy)]
 pub enum Listed {
     NoKind,
     NoLength,

@@ -9,7 +9,7 @@ use crate::Fault;
 use crate::bytes::number8;
 use crate::progress::Progress;
 
-#[derive(Drop)]
+#[derive(Clone, Copy)]
 pub enum Finding {
     Clean,
     Faulty(Fault),

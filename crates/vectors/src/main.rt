@@ -5,7 +5,7 @@ ghost use Rattle.std.specs.Prelude.{◌<◌, ◌≤◌};
 use libc::{STDIN_FILENO, STDOUT_FILENO};
 
 // What came of the next vector: the input is over or out of form; the reports are the same; or they differ.
-#[derive(Drop)]
+#[derive(Clone, Copy)]
 enum Compared {
     Over,
     Broken,
@@ -63,7 +63,7 @@ fn reported(trace: &[u8], n: usize, expected: &[u8], m: usize, text: &mut [u8]) 
 }
 
 // How long a vector's name, trace and report are.
-#[derive(Drop)]
+#[derive(Clone, Copy)]
 struct Lengths {
     name: usize,
     trace: usize,
@@ -111,7 +111,7 @@ fn compare_next(
     Compared::Differs
 }
 
-#[derive(Drop)]
+#[derive(Clone, Copy)]
 struct Tally {
     ran: u64,
     differ: u64,

@@ -12,7 +12,7 @@ use writing::Written;
 
 // What a trace is told, as numbers: 0 and the four counts of the run, or the refusal's number and its offset.
 #[repr(C)]
-#[derive(Drop)]
+#[derive(Clone, Copy)]
 pub struct Numbers {
     pub refusal: u64,
     pub offset: u64,

@@ -13,7 +13,7 @@ use reading::row::{BYTES, HEADS, WORDS};
 const ROWS: usize = 10923;
 
 // The length of the trace, and of the line.
-#[derive(Drop)]
+#[derive(Clone, Copy)]
 pub struct Lengths {
     pub trace: usize,
     pub told: usize,

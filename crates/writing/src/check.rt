@@ -16,14 +16,14 @@ use trace::{Fault, LONGEST};
 const LONGEST_BODY: usize = 19;
 
 // What came of a row: its fault, or what is known behind it.
-#[derive(Drop)]
+#[derive(Clone, Copy)]
 pub enum Turn {
     Fail(Fault),
     Go(Progress),
 }
 
 // What came of all rows: the size of their records; or a fault, the offset where its record would have begun, and its row.
-#[derive(Drop)]
+#[derive(Clone, Copy)]
 pub enum Checked {
     Clean(usize),
     Faulty(Fault, usize, usize),

@@ -12,7 +12,7 @@ mod record;
 // What came of a list: 0 and how many bytes were written; or the refusal's number, the offset where the faulty record would have begun,
 // and its row.
 #[repr(C)]
-#[derive(Drop)]
+#[derive(Clone, Copy)]
 pub struct Written {
     pub refusal: u64,
     pub offset: u64,

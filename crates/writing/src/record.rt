@@ -7,7 +7,7 @@ ghost use Rattle.writing.specs.Rows.{rows};
 ghost use Rattle.writing.specs.Inner.Records.{kind_says, row_at, body_at, record_at, RowIn};
 
 // The section of a kind's records, 0 where there is no such kind, and the size of their bodies.
-#[derive(Drop)]
+#[derive(Clone, Copy)]
 pub struct Kind {
     pub section: u8,
     pub size: usize,

@@ -1,0 +1,19 @@
+-- `fields_say` meets its contract: field after field, as far as each is there and has a number.
+use Prim.Native.Nat.{◌-◌, ◌<◌, ◌≤◌}
+use mathlib.Core.Path.{◌≡◌, refl, sym, ◌∙◌}
+use native.Mathlib.Numerals.{add-one}
+use native.Mathlib.Omega.{arith}
+use lib.ListN.{length}
+use borrow.Author.Rules.{rules}
+use Rattle.trace.specs.Table.{kind_row}
+use Rattle.lines.specs.Inner.Read.{FieldsRead}
+use Rattle.lines.proofs.Spans.{fields-end, fields-next}
+use Rattle.lines.proofs.Rows.{few-fields}
+use Rattle.lines.proofs.Fields.{fields-start, fields-missing, fields-bad, fields-more, fields-extra, fields-all}
+use Rattle.lines.proofs.fields_say.Given as goal
+
+abbrev pub invariant-loop-place : goal.invariant-loop-place
+invariant-loop-place l = FieldsRead l.line l.start l.kind l.values l.place l.at
+
+abbrev pub decreases-loop-place : goal.decreases-loop-place
+decreases-loop-place l = l.count - l.place

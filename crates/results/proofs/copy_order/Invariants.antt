@@ -1,0 +1,14 @@
+-- `results::copy_order` meets its contract: the slice is filled from its front.
+use Prim.Native.Nat.{◌-◌, ◌≤◌}
+use native.Mathlib.Omega.{arith}
+use lib.ListN.{get_or}
+use borrow.Author.Rules.{rules}
+use Rattle.store.specs.Inner.Memory.{view}
+use Rattle.results.proofs.Filling.{Filled, filled_none, filled_more, filled-list}
+use Rattle.results.proofs.copy_order.Given as goal
+
+abbrev pub invariant-loop-i : goal.invariant-loop-i
+invariant-loop-i l = (l.i ≤ l.n) × Filled (λ j. get_or (view l.m).order j 0) l.initial.order l.order l.i
+
+abbrev pub decreases-loop-i : goal.decreases-loop-i
+decreases-loop-i l = l.n - l.i
