@@ -1,0 +1,12 @@
+-- `noted` meets its contract: what the record leaves, then what is known behind it.
+
+use Rattle.load.proofs.put.noted.Goals as goal
+
+pub put-requires : goal.put-requires
+put-requires c = c.requires.put
+
+pub noted-requires : goal.noted-requires
+noted-requires c = c.requires.known
+
+pub returns : goal.returns
+returns c = record { noted = c.noted.ensures; put = c.put.ensures }
