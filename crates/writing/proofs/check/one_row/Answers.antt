@@ -33,17 +33,17 @@ put_body-end-requires c = record { row_in = row_in (lent c.before.before.before.
 
 pub slice_bounds-body-end : goal.slice_bounds-body-end
 slice_bounds-body-end c =
-    let body : Stands (body_at (lent c.before.before.before.before.before.before.before.before.before.before.before) c.args.i) c.put_body-end.new.out c.put_body-end.result = body-stands (lent c.before.before.before.before.before.before.before.before.before) c.args.i c.put_body-end.ensures refl in body.within
+    let body : Stands (body_at (lent c.before.before.before.before.before.before.before.before.before.before.before) c.args.i) c.put_body-end.new.out c.put_body-end.result = body-stands (lent c.before.before.before.before.before.before.before.before.before.before.before) c.args.i c.put_body-end.ensures refl in body.within
 
 pub slice_bounds-one_body-end : goal.slice_bounds-one_body-end
 slice_bounds-one_body-end c =
-    let body : Stands (body_at (lent c.before.before.before.before.before.before.before.before.before.before.before.before) c.args.i) c.put_body-end.new.out c.put_body-end.result = body-stands (lent c.before.before.before.before.before.before.before.before.before) c.args.i c.put_body-end.ensures refl in body.size
+    let body : Stands (body_at (lent c.before.before.before.before.before.before.before.before.before.before.before.before) c.args.i) c.put_body-end.new.out c.put_body-end.result = body-stands (lent c.before.before.before.before.before.before.before.before.before.before.before.before) c.args.i c.put_body-end.ensures refl in body.size
 
 pub one_body-requires : goal.one_body-requires
 one_body-requires c =
     let section-is : c.kind_of-told.result.section ≡ (row_at (lent c.before.before.before.before.before.before.before.before.before.before.before.before.before) c.args.i).section = ap (λ (k : Kind). k.section) c.kind_of-told.ensures ∙ ap (λ (k : ℕ). (kind_row k).section) c.kind_at-kind.ensures in
     let row-there : is_row (row_at (lent c.before.before.before.before.before.before.before.before.before.before.before.before.before) c.args.i) ≡ true = ap not (ne_eqb _ 0 (λ e. c.if-told-eq0.false (section-is ∙ e))) in
-    let body : Stands (body_at (lent c.before.before.before.before.before.before.before.before.before.before.before.before.before) c.args.i) c.put_body-end.new.out c.put_body-end.result = body-stands (lent c.before.before.before.before.before.before.before.before.before) c.args.i c.put_body-end.ensures refl in
+    let body : Stands (body_at (lent c.before.before.before.before.before.before.before.before.before.before.before.before.before) c.args.i) c.put_body-end.new.out c.put_body-end.result = body-stands (lent c.before.before.before.before.before.before.before.before.before.before.before.before.before) c.args.i c.put_body-end.ensures refl in
     let bodied = bodied-at _ _ row-there in
     (rw (body.text-is, c.kind_at-kind.ensures, section-is) bodied, may-check c.requires.1)
 
@@ -56,7 +56,7 @@ returns c =
   bytes_low = λ j. (c.shared_slice_known-2-1.given j).fits;
   words-low = λ j. (c.shared_slice_known-3-1.given j).fits;
 } in
-    let body : Stands (body_at (lent c.before.before.before.before.before.before.before.before.before.before.before.before.before.before) c.args.i) c.put_body-end.new.out c.put_body-end.result = body-stands (lent c.before.before.before.before.before.before.before.before.before) c.args.i c.put_body-end.ensures refl in
+    let body : Stands (body_at (lent c.before.before.before.before.before.before.before.before.before.before.before.before.before.before) c.args.i) c.put_body-end.new.out c.put_body-end.result = body-stands (lent c.before.before.before.before.before.before.before.before.before.before.before.before.before.before) c.args.i c.put_body-end.ensures refl in
     let is = row-there in
     let found = rw (body.text-is, c.kind_at-kind.ensures, item-at _ _ is typed) at c.one_body.ensures in
     row-turn c.requires.1 c.requires.0 is c.one_body.result _ found

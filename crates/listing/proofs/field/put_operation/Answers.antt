@@ -1,0 +1,40 @@
+-- `field::put_operation` meets its contract: a name for each number that has one.
+use Prim.Native.Nat.{◌≤◌}
+use native.Mathlib.Omega.{arith}
+use borrow.Author.Rules.{rules}
+use Rattle.digits.specs.Numeral.{bytes_of}
+use Rattle.listing.specs.Inner.Fields.{operation_shown}
+use Rattle.listing.proofs.Lines.{operation-unnamed}
+use Rattle.listing.proofs.field.put_operation.Goals as goal
+
+pub returns-in-0 : goal.returns-in-0
+unfolding operation_shown bytes_of
+returns-in-0 c =
+    let written = c.put_field.ensures in
+    (rw c.in-0.is written, omega (arith, written.behind))
+
+pub returns-in-1 : goal.returns-in-1
+unfolding operation_shown bytes_of
+returns-in-1 c =
+    let written = c.put_field-in-1.ensures in
+    (rw c.in-1.is written, omega (arith, written.behind))
+
+pub returns-in-2 : goal.returns-in-2
+unfolding operation_shown bytes_of
+returns-in-2 c =
+    let written = c.put_field-in-2.ensures in
+    (rw c.in-2.is written, omega (arith, written.behind))
+
+pub returns-in-3 : goal.returns-in-3
+unfolding operation_shown bytes_of
+returns-in-3 c =
+    let written = c.put_field-in-3.ensures in
+    (rw c.in-3.is written, omega (arith, written.behind))
+
+pub returns-in_default : goal.returns-in_default
+returns-in_default c =
+    let r = c.in_default.in_default-own.rest in
+    let v = c.args.v in
+    let high : 4 ≤ v = omega (arith, r.1, r.0.1, r.0.0.1, r.0.0.0.1) in
+    let written = c.put_narrow.ensures in
+    (rw (operation-unnamed v high) written.0, omega (arith, written.1))

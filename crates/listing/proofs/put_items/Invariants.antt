@@ -1,0 +1,16 @@
+-- `listing::put_items` meets its contract: a line for each record.
+use Prim.Native.Nat.{◌-◌}
+use mathlib.Core.Path.{◌≡◌, refl, sym}
+use native.Mathlib.Omega.{arith}
+use lib.ListN.{length}
+use borrow.Author.Rules.{rules}
+use Rattle.trace.proofs.Records.{Body, body_at, body-size}
+use Rattle.listing.specs.Inner.Walk.{ListedTo}
+use Rattle.listing.proofs.Walk.{walk-starts, walk-room, walk-goes, walk-whole, walk_ends}
+use Rattle.listing.proofs.put_items.Given as goal
+
+abbrev pub invariant-loop-kind : goal.invariant-loop-kind
+invariant-loop-kind l = (length l.out ≡ length l.initial.out) × ListedTo l.trace l.initial.out l.at l.next l.out
+
+abbrev pub decreases-loop-kind : goal.decreases-loop-kind
+decreases-loop-kind l = length l.trace - l.at
