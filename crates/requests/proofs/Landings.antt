@@ -141,7 +141,7 @@ module _ {n : Node} {v : View} {t s p q w : ℕ} (L : InHand n v t s p q w) {m�
     came = came_appended;
     told = refl;
     landed = subst (λ (y : View). Landed v t s p y came_appended) (sym stored)
-        (landed-node came_appended (ap came_of o) appended-stays _ (v.waits s p) refl (ap pairs_of (A.Waiting-stays o) ∙ L.in_waiting));
+        (landed-node came_appended (ap came_of o) appended-stays _ (v.waits s p) refl (ap pairs_of (A.waiting_stays o) ∙ L.in_waiting));
   }
     where
       stored : view m' ≡ with_node v s p (tags_of r.node.queue) (v.waits s p) (view m₁).carried v.merges

@@ -1,0 +1,11 @@
+-- `start` meets its contract. The loop's invariant: the requests from t on are linked. Its measure: the requests left.
+use mathlib.Core.Path.{◌≡◌}
+use Rattle.start.proofs.Linking.{Linking, linking-none, linking-more, linking-all, loaded-within}
+use native.Mathlib.Omega.{arith}
+use Rattle.start.proofs.start.Given as goal
+
+abbrev pub invariant-loop-t : goal.invariant-loop-t
+invariant-loop-t l = Linking l.initial.m l.m l.count l.t
+
+abbrev pub decreases-loop-t : goal.decreases-loop-t
+decreases-loop-t l = l.t
