@@ -1,0 +1,12 @@
+-- `forwards` meets its contract: a row of forwards, as that of collects.
+use Prim.Native.Nat.{◌<◌}
+use native.Mathlib.Omega.{arith}
+use Rattle.event.proofs.Steps.{forwards-fit}
+use Rattle.rounds.proofs.Rows.{Alone, levels-within, alone-begins, alone-asks-at, alone-rests, alone-goes}
+use Rattle.rounds.proofs.forwards.Given as goal
+
+abbrev pub invariant-loop-left : goal.invariant-loop-left
+invariant-loop-left l = Alone 1 l.level l.initial.m l.m l.left
+
+abbrev pub decreases-loop-left : goal.decreases-loop-left
+decreases-loop-left l = l.left

@@ -1,0 +1,12 @@
+-- `forwards_down` meets its contract. The loop's invariant: the rows from the level down lead to the end. Its measure: the level.
+use native.Mathlib.Omega.{arith}
+use borrow.Author.Rules.{rules}
+use Rattle.rounds.proofs.Rows.{levels-within}
+use Rattle.rounds.proofs.Whole.{Falling, falling-begins, falling-level, falling-goes, falling-ends}
+use Rattle.rounds.proofs.forwards_down.Given as goal
+
+abbrev pub invariant-loop-level : goal.invariant-loop-level
+invariant-loop-level l = Falling l.initial.m l.m l.level
+
+abbrev pub decreases-loop-level : goal.decreases-loop-level
+decreases-loop-level l = l.level
