@@ -1,0 +1,14 @@
+-- `acts_from` meets its contract: act by act, until the trace ends or every request is answered.
+use borrow.Author.Rules.{rules}
+use Prim.Native.Nat.{◌-◌}
+use native.Mathlib.Omega.{arith}
+use lib.ListN.{length}
+use Rattle.run.proofs.Acts.{Going, going-first, going-ready, going-any, going-left, going-few, event-next, drain-next, going-event}
+use Rattle.run.proofs.Acts.{going-drain, going-ends, going-rests}
+use Rattle.run.proofs.acts_from.Given as goal
+
+abbrev pub invariant-loop-what : goal.invariant-loop-what
+invariant-loop-what l = Going l.trace l.from l.initial.m l.initial.words l.at l.m l.words
+
+abbrev pub decreases-loop-what : goal.decreases-loop-what
+decreases-loop-what l = length l.trace - l.at
