@@ -9,7 +9,7 @@ use Rattle.report.proofs.Names.{marked-none, marked_more}
 use Rattle.report.proofs.name_requests.Given as goal
 
 abbrev pub invariant-loop-tag : goal.invariant-loop-tag
-invariant-loop-tag l = (l.tag ≤ l.n) × Marked (view l.m).fixed.address l.tag l.fn.given l.named
+invariant-loop-tag l = (l.tag ≤ l.n) × Marked (view l.m).fixed.address l.tag l.initial.named l.named
 
 abbrev pub decreases-loop-tag : goal.decreases-loop-tag
 decreases-loop-tag l = l.n - l.tag
