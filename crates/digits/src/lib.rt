@@ -1,4 +1,6 @@
 // Lines, names and numbers, as bytes in a lent buffer: document 01, "A session given whole". Numbers are written in decimal.
+#![tactic(auto)]
+
 ghost use Rattle.std.specs.Prelude.{◌≡◌, [], ◌∷◌, ◌++◌, ◌+◌, ◌≤◌, ◌<◌, length};
 ghost use Rattle.digits.specs.Numeral.{digit, decimal};
 ghost use Rattle.digits.specs.Line.{line};

@@ -1,4 +1,6 @@
 // The four operations, what each does to a word, and what two become where they merge: document 01, "Operations".
+#![tactic(auto)]
+
 ghost use Rattle.std.specs.Prelude.{◌≡◌};
 ghost use Rattle.operation.specs.Operation.{sum, applied, merged, operation_of, words_of, operands_fit};
 

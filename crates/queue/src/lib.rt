@@ -1,5 +1,7 @@
 // A position's queue and wait buffer by value: tags in words, a byte each. What a message, a wait record or a reply carries stands in the
 // machine by tag.
+#![tactic(auto)]
+
 ghost use Rattle.std.specs.Prelude.{◌≡◌, [], ◌∷◌, ◌++◌, suc, ◌<◌, get_or, take, drop, eqb};
 ghost use Rattle.lists.specs.Search.{first_of};
 ghost use Rattle.words.specs.Inner.Digits.{byte_in};

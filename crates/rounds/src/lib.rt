@@ -2,7 +2,7 @@
 // lowest first: at the others a step changes nothing. The row's lengths are read once, since a step leaves the other queues of its row as
 // they were. Past the N positions of a level nothing ever stands. Each kind of step has a loop of its own, so that the step stands in it.
 ghost use Rattle.std.specs.Prelude.{◌-◌, ◌≤◌, ◌<◌, ◌^◌};
-ghost use Rattle.machine.specs.Run.{row, rows_up, rows_down, round as roundEvents};
+ghost use Rattle.machine.specs.Run.{row, rows_up, rows_down, round as round_events};
 ghost use Rattle.store.specs.Inner.Memory.{view};
 ghost use Rattle.moves.specs.Inner.Moves.{Ready, ReadyWith, MovesFor, MovesWithFor};
 ghost use Rattle.rounds.specs.Inner.Drains.{Drained, AllAnswered};
@@ -37,7 +37,7 @@ pub fn all_answered(m: &Machine) -> bool
 // "collects; returns at levels 1 to k; modules; forwards at levels k-1 down to 1; issues; positions ascending"
 fn round(m: &mut Machine, words: &mut [u64; 256])
     requires { ReadyWith m.old words.old }
-    ensures { MovesWithFor (λ k. roundEvents k (2 ^ k)) m.old words.old m.new words.new }
+    ensures { MovesWithFor (λ k. round_events k (2 ^ k)) m.old words.old m.new words.new }
 {
     collects(m);
     returns_up(m);

@@ -1,5 +1,7 @@
 // The machine in code: one array of words. Small numbers are packed: a queue is a word of tags, a wait buffer is two, and lengths stand
 // in rows, a word of sixteen for each level. No other crate knows where anything stands.
+#![tactic(auto)]
+
 pub mod answers;
 pub mod queues;
 pub mod shape;

@@ -1,4 +1,6 @@
 // The report's text, as bytes in a lent buffer: document 01, "A session given whole".
+#![tactic(auto)]
+
 ghost use Rattle.std.specs.Prelude.{◌+◌, ◌*◌, ◌≤◌, length};
 ghost use Rattle.digits.specs.Inner.Buffer.{Wrote, Printed};
 ghost use Rattle.text.specs.Text.{reply_line, order_line, word_line, reply_lines, order_lines, word_lines, count_lines, refused_text, line_room};

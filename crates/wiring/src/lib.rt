@@ -1,4 +1,6 @@
 // The omega network's wiring: document 01, "Wiring and queues", after Lawrie, "Access and Alignment of Data in an Array Processor", 1975.
+#![tactic(auto)]
+
 ghost use Rattle.std.specs.Prelude.{◌≡◌, ◌^◌, ◌≤◌, ◌<◌};
 ghost use Rattle.wiring.specs.Wiring.{module_of};
 ghost use Rattle.wiring.specs.Inner.Path.{position_on, PathOf};

@@ -1,4 +1,6 @@
 // Small numbers side by side in one word: lengths of four bits, tags of a byte, marks of one bit.
+#![tactic(auto)]
+
 ghost use Rattle.std.specs.Prelude.{◌≡◌, suc, ◌-◌, ◌<◌, ◌≤◌, ◌≢◌, ◌==◌};
 ghost use Rattle.lists.specs.Table.{update};
 ghost use Rattle.words.specs.Inner.Digits.{length_in, byte_in, bit_in, FirstBusy, Above, PlaceOf, Pushed, Topped, Without, LowBits};

@@ -2,7 +2,6 @@
 use mathlib.Core.List.{[], ◌∷◌}
 use native.Mathlib.Omega.{arith}
 use lib.ListN.{length-append}
-use borrow.Author.Rules.{rules}
 use Rattle.digits.specs.Numeral.{bytes_of, decimal}
 use Rattle.digits.specs.Line.{line}
 use Rattle.digits.proofs.Buffer.{wrote_then, room-then}

@@ -2,7 +2,6 @@
 use mathlib.Core.List.{[], ◌∷◌}
 use native.Mathlib.Omega.{arith}
 use lib.ListN.{length-append}
-use borrow.Author.Rules.{rules}
 use Rattle.digits.proofs.Buffer.{wrote_then, room-then}
 use Rattle.digits.proofs.put_number.Goals as goal
 

@@ -1,5 +1,4 @@
 -- `operation::apply` meets its contract: each arm by what its match told of the operation.
-use Rattle.std.proofs.Common.{rules}
 use Rattle.operation.specs.Operation.{applied}
 use Rattle.operation.proofs.apply.Goals as goal
 

@@ -1,5 +1,4 @@
 -- `operation::merge` meets its contract: each arm by what the two matches told.
-use Rattle.std.proofs.Common.{rules}
 use Rattle.operation.specs.Operation.{merged}
 use Rattle.operation.proofs.merge.Goals as goal
 

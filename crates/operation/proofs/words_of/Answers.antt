@@ -1,5 +1,4 @@
 -- `operation::words_of` meets its contract: each arm by what its match told of the operation.
-use Rattle.std.proofs.Common.{rules}
 use Rattle.operation.specs.Operation.{code_of, first_operand, second_operand}
 use Rattle.operation.proofs.words_of.Goals as goal
 

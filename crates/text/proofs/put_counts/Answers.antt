@@ -3,7 +3,6 @@ use Prim.Native.Nat.{◌*◌, ◌≤◌}
 use mathlib.Core.List.{[], ◌∷◌}
 use native.Mathlib.Omega.{arith}
 use lib.ListN.{length, length-append}
-use borrow.Author.Rules.{rules}
 use Rattle.digits.specs.Numeral.{bytes_of, decimal}
 use Rattle.digits.specs.Line.{line}
 use Rattle.digits.proofs.Buffer.{wrote_then, wrote-within, room-then}

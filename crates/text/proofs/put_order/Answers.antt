@@ -1,6 +1,5 @@
 -- `text::put_order` meets its contract.
 use native.Mathlib.Omega.{arith}
-use borrow.Author.Rules.{rules}
 use Rattle.digits.specs.Numeral.{bytes_of}
 use Rattle.digits.proofs.Buffer.{wrote-within}
 use Rattle.text.specs.Text.{line_room, order_line}

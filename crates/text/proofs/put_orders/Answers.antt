@@ -1,10 +1,6 @@
 -- `text::put_orders` meets its contract: after n turns the first n lines are written.
-use Prim.Native.Nat.{◌+◌, ◌*◌, ◌-◌, ◌≤◌}
 use mathlib.Core.Path.{◌≡◌, refl}
 use native.Mathlib.Omega.{arith}
-use lib.ListN.{length}
-use Rattle.digits.specs.Inner.Buffer.{Wrote}
-use Rattle.text.specs.Text.{line_room, order_lines}
 use Rattle.text.proofs.Sections.{orders, section-starts, section-goes}
 use Rattle.text.proofs.put_orders.Goals as goal
 

@@ -1,11 +1,9 @@
 -- `text::put_replies` meets its contract: after n turns the first n lines are written.
 use Prim.Native.Nat.{◌+◌, ◌*◌, ◌-◌, ◌≤◌}
-use mathlib.Core.Path.{◌≡◌, refl}
-use native.Mathlib.Omega.{arith}
+use mathlib.Core.Path.{◌≡◌}
 use lib.ListN.{length}
 use Rattle.digits.specs.Inner.Buffer.{Wrote}
 use Rattle.text.specs.Text.{line_room, reply_lines}
-use Rattle.text.proofs.Sections.{replies, section-starts, section-goes}
 use Rattle.text.proofs.put_replies.Given as goal
 
 abbrev pub invariant-loop-tag : goal.invariant-loop-tag

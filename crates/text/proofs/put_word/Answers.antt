@@ -2,7 +2,6 @@
 use Prim.Native.Nat.{◌≤◌}
 use native.Mathlib.Omega.{arith}
 use lib.ListN.{length}
-use borrow.Author.Rules.{rules}
 use borrow.Author.Tests.{eq-eqb, ne_eqb}
 use Rattle.digits.specs.Numeral.{bytes_of}
 use Rattle.digits.proofs.Buffer.{wrote_nothing, wrote-within}

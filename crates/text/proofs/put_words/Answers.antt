@@ -1,10 +1,6 @@
 -- `text::put_words` meets its contract: after n turns the lines of the first n addresses are written.
-use Prim.Native.Nat.{◌+◌, ◌*◌, ◌-◌, ◌≤◌}
 use mathlib.Core.Path.{◌≡◌, refl}
 use native.Mathlib.Omega.{arith}
-use lib.ListN.{length}
-use Rattle.digits.specs.Inner.Buffer.{Wrote}
-use Rattle.text.specs.Text.{line_room, word_lines}
 use Rattle.text.proofs.Sections.{addresses, section-starts, section-goes}
 use Rattle.text.proofs.put_words.Goals as goal
 

@@ -1,7 +1,6 @@
 -- `wiring::module_of` meets its contract: the code's divisor is 2^k.
 use mathlib.Core.Path.{refl}
 use lib.Pow.{pow_pos}
-use borrow.Author.Rules.{rules}
 use Rattle.wiring.specs.Wiring.{module_of}
 use Rattle.wiring.proofs.Laws.{module-below}
 use Rattle.wiring.proofs.Shifts.{width-exact}

@@ -1,9 +1,7 @@
 -- `wiring::path_of` meets its contract. The loop's invariant: the word has the positions of the levels from `left` on, and the route is shifted so far.
 use native.Mathlib.Omega.{arith}
-use borrow.Author.Rules.{rules}
-use Rattle.wiring.specs.Wiring.{module_of}
 use Rattle.wiring.proofs.Shifts.{width_small, left-exact, left-small}
-use Rattle.wiring.proofs.Paths.{From, from-none, from-small, from_next, from_all}
+use Rattle.wiring.proofs.Paths.{from-none, from-small, from_next, from_all}
 use Rattle.wiring.proofs.path_of.Goals as goal
 
 pub overflow_add-route : goal.overflow_add-route

@@ -1,7 +1,6 @@
 -- `wiring::position_on` meets its contract, by what a digit is.
 use mathlib.Core.Path.{refl}
 use native.Mathlib.Omega.{arith}
-use borrow.Author.Rules.{rules}
 use Rattle.words.specs.Inner.Digits.{digit}
 use Rattle.wiring.specs.Inner.Path.{position_on}
 use Rattle.wiring.proofs.position_on.Goals as goal

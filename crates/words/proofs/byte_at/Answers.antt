@@ -1,5 +1,5 @@
 -- `words::byte_at` meets its contract, by what a digit is.
-use Rattle.std.proofs.Common.{refl, rules}
+use Rattle.std.proofs.Common.{refl}
 use Rattle.words.specs.Inner.Digits.{digit}
 use Rattle.words.proofs.byte_at.Goals as goal
 

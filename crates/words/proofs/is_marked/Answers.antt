@@ -1,5 +1,5 @@
 -- `words::is_marked` meets its contract, by `bit_is`.
-use Rattle.std.proofs.Common.{ℕ, eqb, ap, rules}
+use Rattle.std.proofs.Common.{ℕ, eqb, ap}
 use Rattle.words.proofs.Marks.{bit_is}
 use Rattle.words.proofs.is_marked.Goals as goal
 

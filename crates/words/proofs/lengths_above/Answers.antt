@@ -1,5 +1,5 @@
 -- `words::lengths_above` meets its contract, by `above-lengths`.
-use Rattle.std.proofs.Common.{◌^◌, ◌<◌, arith, rules}
+use Rattle.std.proofs.Common.{◌^◌, ◌<◌, arith}
 use Rattle.words.proofs.Written.{above-lengths}
 use Rattle.words.proofs.lengths_above.Goals as goal
 

@@ -1,5 +1,5 @@
 -- `words::low_marks` meets its contract, by `low_bits`.
-use Rattle.std.proofs.Common.{arith, rules}
+use Rattle.std.proofs.Common.{arith}
 use Rattle.words.proofs.Written.{one-pos}
 use Rattle.words.proofs.Marks.{low_bits, low-bits-written}
 use Rattle.words.proofs.low_marks.Goals as goal

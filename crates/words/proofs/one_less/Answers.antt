@@ -1,5 +1,5 @@
 -- `words::one_less` meets its contract, by `less-digits`.
-use Rattle.std.proofs.Common.{◌^◌, ◌<◌, refl, arith, rules}
+use Rattle.std.proofs.Common.{◌^◌, ◌<◌, refl, arith}
 use Rattle.words.proofs.Written.{less-within, less-digits}
 use Rattle.words.proofs.one_less.Goals as goal
 

@@ -1,5 +1,5 @@
 -- `words::one_more` meets its contract, by `more-digits`.
-use Rattle.std.proofs.Common.{◌^◌, ◌<◌, refl, arith, rules}
+use Rattle.std.proofs.Common.{◌^◌, ◌<◌, refl, arith}
 use Rattle.words.proofs.Written.{more-fits, more-digits}
 use Rattle.words.proofs.one_more.Goals as goal
 

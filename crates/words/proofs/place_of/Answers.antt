@@ -1,5 +1,5 @@
 -- `words::place_of` meets its contract, by `place_of`.
-use Rattle.std.proofs.Common.{◌^◌, ◌<◌, lt_of_le_of_lt, arith, lit<, rules}
+use Rattle.std.proofs.Common.{◌^◌, ◌<◌, lt_of_le_of_lt, arith, lit<}
 use lib.Count.{trailing_le}
 use Rattle.words.proofs.Places.{place_of}
 use Rattle.words.proofs.place_of.Goals as goal

@@ -1,5 +1,5 @@
 -- `words::with_highest` meets its contract, by `highest-topped`.
-use Rattle.std.proofs.Common.{◌*◌, arith, rules}
+use Rattle.std.proofs.Common.{◌*◌, arith}
 use Rattle.words.proofs.Written.{one-pos, highest-fits, highest-topped}
 use Rattle.words.proofs.with_highest.Goals as goal
 

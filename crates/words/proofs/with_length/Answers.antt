@@ -1,5 +1,5 @@
 -- `words::with_length` meets its contract, by `written-digits` of 4 bits.
-use Rattle.std.proofs.Common.{◌^◌, ◌<◌, refl, arith, rules}
+use Rattle.std.proofs.Common.{◌^◌, ◌<◌, refl, arith}
 use Rattle.words.specs.Inner.Digits.{digit}
 use Rattle.words.proofs.Written.{taken, written-fits, written-digits}
 use Rattle.words.proofs.with_length.Goals as goal

@@ -1,5 +1,5 @@
 -- `words::with_lowest` meets its contract, by `pushed`.
-use Rattle.std.proofs.Common.{arith, rules}
+use Rattle.std.proofs.Common.{arith}
 use Rattle.words.proofs.Written.{pushed}
 use Rattle.words.proofs.with_lowest.Goals as goal
 

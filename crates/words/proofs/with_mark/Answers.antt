@@ -1,5 +1,5 @@
 -- `words::with_mark` meets its contract, by `marked-bits`.
-use Rattle.std.proofs.Common.{◌^◌, ◌<◌, arith, rules}
+use Rattle.std.proofs.Common.{◌^◌, ◌<◌, arith}
 use Rattle.words.proofs.Marks.{marked-fits, marked-bits}
 use Rattle.words.proofs.with_mark.Goals as goal
 

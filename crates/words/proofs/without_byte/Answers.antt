@@ -1,5 +1,5 @@
 -- `words::without_byte` meets its contract, by `removed-without`.
-use Rattle.std.proofs.Common.{◌*◌, ◌^◌, ◌<◌, arith, rules}
+use Rattle.std.proofs.Common.{◌*◌, ◌^◌, ◌<◌, arith}
 use Rattle.words.proofs.Written.{one-pos, removed-fits, removed-without}
 use Rattle.words.proofs.without_byte.Goals as goal
 

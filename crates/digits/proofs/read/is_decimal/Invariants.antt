@@ -1,15 +1,9 @@
 -- `is_decimal` meets its contract: after i turns the first i bytes are digits.
-use Prim.Native.Nat.{◌-◌, ◌≤◌, ◌<◌}
-use mathlib.Core.Path.{◌≡◌, refl, sym}
-use native.Mathlib.Omega.{arith}
-use native.Mathlib.Numerals.{add-one}
+use Prim.Native.Nat.{◌-◌, ◌≤◌}
+use mathlib.Core.Path.{◌≡◌}
 use lib.ListN.{length, take}
-use lib.Seq.{take-suc, take_all}
-use borrow.Author.Rules.{rules}
-use Rattle.lists.specs.Search.{All, nil}
-use Rattle.lists.proofs.Every.{all_more}
+use Rattle.lists.specs.Search.{All}
 use Rattle.digits.specs.Inner.Value.{IsDigit}
-use Rattle.digits.proofs.Spelling.{none-decimal, zero-first, no_digit, digits_decimal}
 use Rattle.digits.proofs.read.is_decimal.Given as goal
 
 abbrev pub invariant-loop-i : goal.invariant-loop-i

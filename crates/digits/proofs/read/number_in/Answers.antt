@@ -1,6 +1,5 @@
 -- `number_in` meets its contract.
 use mathlib.Core.Path.{sym, ◌∙◌}
-use borrow.Author.Rules.{rules}
 use Rattle.digits.proofs.Spelling.{no_number}
 use Rattle.digits.proofs.read.number_in.Goals as goal
 

@@ -3,9 +3,8 @@ use Prim.Native.Nat.{◌+◌, ◌*◌, ◌-◌, ◌^◌, ◌≤◌, ◌<◌}
 use mathlib.Core.Path.{◌≡◌, refl, sym, ◌∙◌, ap}
 use native.Mathlib.Omega.{arith}
 use native.Mathlib.Numerals.{add-one}
-use lib.ListN.{length, get_or, take}
+use lib.ListN.{length, get_or}
 use lib.Seq.{take_all}
-use borrow.Author.Rules.{rules}
 use Rattle.digits.specs.Numeral.{value_in}
 use Rattle.digits.proofs.Spelling.{digit_at, value_none, value-more, too_large, fits}
 use Rattle.digits.proofs.read.value_of.Goals as goal

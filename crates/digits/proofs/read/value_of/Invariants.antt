@@ -1,13 +1,8 @@
 -- `value_of` meets its contract: after i turns n is what the first i digits spell.
-use Prim.Native.Nat.{◌+◌, ◌*◌, ◌-◌, ◌^◌, ◌≤◌, ◌<◌}
-use mathlib.Core.Path.{◌≡◌, refl, sym, ◌∙◌, ap}
-use native.Mathlib.Omega.{arith}
-use native.Mathlib.Numerals.{add-one}
-use lib.ListN.{length, get_or, take}
-use lib.Seq.{take_all}
-use borrow.Author.Rules.{rules}
+use Prim.Native.Nat.{◌-◌, ◌^◌, ◌≤◌, ◌<◌}
+use mathlib.Core.Path.{◌≡◌}
+use lib.ListN.{length, take}
 use Rattle.digits.specs.Numeral.{value_in}
-use Rattle.digits.proofs.Spelling.{digit_at, value_none, value-more, too_large, fits}
 use Rattle.digits.proofs.read.value_of.Given as goal
 
 abbrev pub invariant-loop-i : goal.invariant-loop-i

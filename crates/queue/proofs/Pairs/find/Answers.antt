@@ -1,5 +1,4 @@
 -- `queue::Pairs::find` meets its contract: the lowest place with the tag is that of the oldest record, if it is one of those in use.
-use borrow.Author.Rules.{rules}
 use Rattle.queue.proofs.Laws.{find_none, find_at, find-nowhere}
 use Rattle.queue.proofs.Pairs.find.Goals as goal
 

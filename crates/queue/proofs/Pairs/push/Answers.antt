@@ -1,6 +1,5 @@
 -- `queue::Pairs::push` meets its contract: both tags at the first place that is free.
 use native.Mathlib.Omega.{arith}
-use borrow.Author.Rules.{rules}
 use Rattle.queue.proofs.Laws.{pairs-push}
 use Rattle.queue.proofs.Pairs.push.Goals as goal
 

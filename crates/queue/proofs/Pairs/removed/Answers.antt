@@ -1,6 +1,5 @@
 -- `queue::Pairs::removed` meets its contract: both tags of the record go.
 use native.Mathlib.Omega.{arith}
-use borrow.Author.Rules.{rules}
 use Rattle.queue.proofs.Laws.{pairs-without}
 use Rattle.queue.proofs.Pairs.removed.Goals as goal
 

@@ -1,5 +1,4 @@
 -- `queue::Tags::oldest` meets its contract: the oldest of n tags has n - 1 below it.
-use borrow.Author.Rules.{rules}
 use Rattle.queue.proofs.Laws.{tags-oldest}
 use Rattle.queue.proofs.Tags.oldest.Goals as goal
 

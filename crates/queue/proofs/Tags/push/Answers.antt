@@ -1,6 +1,5 @@
 -- `queue::Tags::push` meets its contract: the new tag is the youngest.
 use native.Mathlib.Omega.{arith}
-use borrow.Author.Rules.{rules}
 use Rattle.queue.proofs.Laws.{tags-push}
 use Rattle.queue.proofs.Tags.push.Goals as goal
 

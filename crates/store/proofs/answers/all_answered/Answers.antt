@@ -1,6 +1,5 @@
 -- `all_answered` meets its contract: a word that differs has a mark that differs.
 use native.Mathlib.Omega.{arith}
-use borrow.Author.Rules.{rules}
 use Rattle.store.proofs.Answered.{not-all, last-decides}
 use mathlib.Core.Path.{ap}
 use mathlib.Core.Bool.{not}

@@ -1,6 +1,5 @@
 -- `append_order` meets its contract: a byte at the first free place, and the length.
 use native.Mathlib.Omega.{arith}
-use borrow.Author.Rules.{rules}
 use Rattle.store.proofs.Answered.{order-length, order-appended}
 use Rattle.store.proofs.answers.append_order.Goals as goal
 

@@ -1,6 +1,5 @@
 -- `is_answered` meets its contract: a mark.
 use mathlib.Core.Path.{sym, ◌∙◌}
-use borrow.Author.Rules.{rules}
 use Rattle.store.proofs.Answered.{answered-here}
 use Rattle.store.proofs.answers.is_answered.Goals as goal
 

@@ -1,6 +1,5 @@
 -- `order_at` meets its contract: a byte.
 use mathlib.Core.Path.{sym, ◌∙◌}
-use borrow.Author.Rules.{rules}
 use Rattle.store.proofs.Answered.{order-here}
 use Rattle.store.proofs.answers.order_at.Goals as goal
 

@@ -1,6 +1,5 @@
 -- `set_answered` meets its contract: a mark set in its word.
 use native.Mathlib.Omega.{arith}
-use borrow.Author.Rules.{rules}
 use Rattle.store.proofs.Answered.{answered-none, answer-set}
 use Rattle.store.proofs.answers.set_answered.Goals as goal
 

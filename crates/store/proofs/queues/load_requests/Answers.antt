@@ -1,6 +1,5 @@
 -- `load_requests` meets its contract: a word and its length.
 use native.Mathlib.Omega.{arith}
-use borrow.Author.Rules.{rules}
 use Rattle.store.proofs.Queued.{requests-is}
 use Rattle.store.proofs.queues.load_requests.Goals as goal
 

@@ -1,6 +1,5 @@
 -- `load_waits` meets its contract: two words and their length.
 use native.Mathlib.Omega.{arith}
-use borrow.Author.Rules.{rules}
 use Rattle.store.proofs.Queued.{waits-is}
 use Rattle.store.proofs.queues.load_waits.Goals as goal
 

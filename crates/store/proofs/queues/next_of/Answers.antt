@@ -1,6 +1,5 @@
 -- `next_of` meets its contract: the lowest byte.
 use mathlib.Core.Path.{sym, ◌∙◌}
-use borrow.Author.Rules.{rules}
 use Rattle.store.proofs.Queued.{next-is}
 use Rattle.store.proofs.queues.next_of.Goals as goal
 

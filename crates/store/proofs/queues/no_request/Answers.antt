@@ -1,7 +1,6 @@
 -- `no_request` meets its contract: whether a length is 0.
 use Prim.Native.Nat.{ℕ}
 use mathlib.Core.Path.{ap, ◌∙◌}
-use borrow.Author.Rules.{rules}
 use lib.Dec.{eqb}
 use Rattle.store.proofs.Queued.{request-none}
 use Rattle.store.proofs.queues.no_request.Goals as goal

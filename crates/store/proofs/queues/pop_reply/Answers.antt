@@ -1,6 +1,5 @@
 -- `pop_reply` meets its contract: the length alone.
 use native.Mathlib.Omega.{arith}
-use borrow.Author.Rules.{rules}
 use Rattle.store.proofs.Queued.{replies-length, reply-popped}
 use Rattle.store.proofs.queues.pop_reply.Goals as goal
 

@@ -1,6 +1,5 @@
 -- `pop_request` meets its contract: the length alone.
 use native.Mathlib.Omega.{arith}
-use borrow.Author.Rules.{rules}
 use Rattle.store.proofs.Queued.{requests-length, request-popped}
 use Rattle.store.proofs.queues.pop_request.Goals as goal
 

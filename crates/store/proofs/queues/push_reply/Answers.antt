@@ -1,6 +1,5 @@
 -- `push_reply` meets its contract: a byte below all others, and the length.
 use native.Mathlib.Omega.{arith}
-use borrow.Author.Rules.{rules}
 use Rattle.store.proofs.Queued.{reply-count-kept, reply-pushed}
 use Rattle.store.proofs.queues.push_reply.Goals as goal
 

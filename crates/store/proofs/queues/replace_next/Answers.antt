@@ -1,5 +1,4 @@
 -- `replace_next` meets its contract: a queue of one, which was one before, or of none.
-use borrow.Author.Rules.{rules}
 use Rattle.store.proofs.Queued.{next-filled, next-again, next-none}
 use Rattle.store.proofs.queues.replace_next.Goals as goal
 

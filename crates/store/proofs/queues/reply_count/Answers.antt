@@ -1,6 +1,5 @@
 -- `reply_count` meets its contract: a length in its row.
 use mathlib.Core.Path.{sym, ◌∙◌}
-use borrow.Author.Rules.{rules}
 use Rattle.store.proofs.Queued.{replies-length}
 use Rattle.store.proofs.queues.reply_count.Goals as goal
 

@@ -1,5 +1,4 @@
 -- `reply_row` meets its contract: the word of a level's lengths.
-use borrow.Author.Rules.{rules}
 use Rattle.store.proofs.Queued.{reply-row}
 use Rattle.store.proofs.queues.reply_row.Goals as goal
 

@@ -1,6 +1,5 @@
 -- `request_count` meets its contract: a length in its row.
 use mathlib.Core.Path.{sym, ◌∙◌}
-use borrow.Author.Rules.{rules}
 use Rattle.store.proofs.Queued.{requests-length}
 use Rattle.store.proofs.queues.request_count.Goals as goal
 

@@ -1,5 +1,4 @@
 -- `request_row` meets its contract: the word of a level's lengths.
-use borrow.Author.Rules.{rules}
 use Rattle.store.proofs.Queued.{request-row}
 use Rattle.store.proofs.queues.request_row.Goals as goal
 

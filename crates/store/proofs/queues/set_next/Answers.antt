@@ -1,6 +1,5 @@
 -- `set_next` meets its contract: a queue of one, which was none or was one before, or of none.
 use mathlib.Core.Path.{◌∙◌}
-use borrow.Author.Rules.{rules}
 use Rattle.store.proofs.Queued.{next-first, next-again, next-none}
 use Rattle.store.proofs.queues.set_next.Goals as goal
 

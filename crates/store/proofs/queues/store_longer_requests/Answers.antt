@@ -1,6 +1,5 @@
 -- `store_longer_requests` meets its contract: a word, and one more in its row.
 use native.Mathlib.Omega.{arith}
-use borrow.Author.Rules.{rules}
 use Rattle.store.proofs.Queued.{request-count-kept, requests-stored}
 use Rattle.store.proofs.queues.store_longer_requests.Goals as goal
 

@@ -1,6 +1,5 @@
 -- `store_longer_waits` meets its contract: two words, and one more in their row.
 use native.Mathlib.Omega.{arith}
-use borrow.Author.Rules.{rules}
 use Rattle.store.proofs.Queued.{wait-count-kept, waits-stored}
 use Rattle.store.proofs.queues.store_longer_waits.Goals as goal
 

@@ -1,6 +1,5 @@
 -- `wait_count` meets its contract: a length in its row.
 use mathlib.Core.Path.{sym, ◌∙◌}
-use borrow.Author.Rules.{rules}
 use Rattle.store.proofs.Queued.{waits-length}
 use Rattle.store.proofs.queues.wait_count.Goals as goal
 

@@ -1,6 +1,5 @@
 -- `add_access` meets its contract: one more, in its own word.
 use native.Mathlib.Omega.{arith}
-use borrow.Author.Rules.{rules}
 use Rattle.store.specs.Inner.Memory.{view}
 use Rattle.store.proofs.Shaped.{access-added}
 use Rattle.store.proofs.shape.add_access.Goals as goal

@@ -1,6 +1,5 @@
 -- `add_round` meets its contract: one more, in its own word.
 use native.Mathlib.Omega.{arith}
-use borrow.Author.Rules.{rules}
 use Rattle.store.specs.Inner.Memory.{view}
 use Rattle.store.proofs.Shaped.{round-added}
 use Rattle.store.proofs.shape.add_round.Goals as goal

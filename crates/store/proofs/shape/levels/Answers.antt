@@ -1,6 +1,5 @@
 -- `levels` meets its contract: a word of the shape.
 use mathlib.Core.Path.{refl}
-use borrow.Author.Rules.{rules}
 use Rattle.store.specs.Inner.Memory.{view, fixed_in}
 use Rattle.store.proofs.shape.levels.Goals as goal
 

@@ -1,6 +1,5 @@
 -- `merges` meets its contract: a count.
 use mathlib.Core.Path.{refl}
-use borrow.Author.Rules.{rules}
 use Rattle.store.specs.Inner.Memory.{view}
 use Rattle.store.proofs.shape.merges.Goals as goal
 

@@ -1,6 +1,5 @@
 -- `ordered` meets its contract: the length of the order list.
 use mathlib.Core.Path.{sym}
-use borrow.Author.Rules.{rules}
 use Rattle.store.proofs.Answered.{order-length}
 use Rattle.store.proofs.shape.ordered.Goals as goal
 

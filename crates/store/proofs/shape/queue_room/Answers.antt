@@ -1,6 +1,5 @@
 -- `queue_room` meets its contract: a word of the shape.
 use mathlib.Core.Path.{refl}
-use borrow.Author.Rules.{rules}
 use Rattle.store.specs.Inner.Memory.{view, fixed_in}
 use Rattle.store.proofs.shape.queue_room.Goals as goal
 

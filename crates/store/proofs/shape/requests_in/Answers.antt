@@ -1,6 +1,5 @@
 -- `requests_in` meets its contract: a word of the shape.
 use mathlib.Core.Path.{refl}
-use borrow.Author.Rules.{rules}
 use Rattle.store.specs.Inner.Memory.{view, fixed_in}
 use Rattle.store.proofs.shape.requests_in.Goals as goal
 

@@ -1,6 +1,5 @@
 -- `rounds` meets its contract: a count.
 use mathlib.Core.Path.{refl}
-use borrow.Author.Rules.{rules}
 use Rattle.store.specs.Inner.Memory.{view}
 use Rattle.store.proofs.shape.rounds.Goals as goal
 

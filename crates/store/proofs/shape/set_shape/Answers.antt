@@ -1,6 +1,5 @@
 -- `set_shape` meets its contract: eight words, four of them marks of the requests below the number.
 use native.Mathlib.Omega.{arith}
-use borrow.Author.Rules.{rules}
 use Rattle.store.proofs.Shaped.{shape-set}
 use Rattle.store.proofs.shape.set_shape.Goals as goal
 

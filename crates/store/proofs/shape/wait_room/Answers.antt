@@ -1,6 +1,5 @@
 -- `wait_room` meets its contract: a word of the shape.
 use mathlib.Core.Path.{refl}
-use borrow.Author.Rules.{rules}
 use Rattle.store.specs.Inner.Memory.{view, fixed_in}
 use Rattle.store.proofs.shape.wait_room.Goals as goal
 

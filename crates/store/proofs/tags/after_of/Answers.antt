@@ -1,7 +1,6 @@
 -- `after_of` meets its contract: a part of the head.
 use mathlib.Core.Path.{sym}
 use native.Mathlib.Omega.{arith}
-use borrow.Author.Rules.{rules}
 use Rattle.store.proofs.Tagged.{after-here}
 use Rattle.store.proofs.tags.after_of.Goals as goal
 

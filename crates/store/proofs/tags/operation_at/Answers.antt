@@ -1,6 +1,5 @@
 -- `operation_at` meets its contract: the code in the head and two operands.
 use native.Mathlib.Omega.{arith}
-use borrow.Author.Rules.{rules}
 use Rattle.store.proofs.Tagged.{carried_here}
 use Rattle.store.proofs.tags.operation_at.Goals as goal
 

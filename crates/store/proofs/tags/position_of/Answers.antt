@@ -1,6 +1,5 @@
 -- `position_of` meets its contract: the path in the head, at a level.
 use native.Mathlib.Omega.{arith}
-use borrow.Author.Rules.{rules}
 use Rattle.store.proofs.Tagged.{path-here}
 use Rattle.store.proofs.tags.position_of.Goals as goal
 

@@ -1,6 +1,5 @@
 -- `put_request` meets its contract: a new head and two operands.
 use native.Mathlib.Omega.{arith}
-use borrow.Author.Rules.{rules}
 use Rattle.store.proofs.Tagged.{request-put}
 use Rattle.store.proofs.tags.put_request.Goals as goal
 

@@ -1,5 +1,4 @@
 -- `set_after` meets its contract: a head with another next request.
-use borrow.Author.Rules.{rules}
 use Rattle.store.proofs.Tagged.{after-set}
 use Rattle.store.proofs.tags.set_after.Goals as goal
 

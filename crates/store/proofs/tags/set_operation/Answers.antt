@@ -1,6 +1,5 @@
 -- `set_operation` meets its contract: a head with another code, and two operands.
 use native.Mathlib.Omega.{arith}
-use borrow.Author.Rules.{rules}
 use Rattle.store.proofs.Tagged.{code_below, operation-set}
 use Rattle.store.proofs.tags.set_operation.Goals as goal
 

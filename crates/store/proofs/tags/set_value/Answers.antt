@@ -1,6 +1,5 @@
 -- `set_value` meets its contract: the first operand, and all else of the tag as it was.
 use native.Mathlib.Omega.{arith}
-use borrow.Author.Rules.{rules}
 use Rattle.store.proofs.Tagged.{value_set}
 use Rattle.store.proofs.tags.set_value.Goals as goal
 

@@ -1,6 +1,5 @@
 -- `value_at` meets its contract: the first operand.
 use native.Mathlib.Omega.{arith}
-use borrow.Author.Rules.{rules}
 use Rattle.store.proofs.Tagged.{carried_here}
 use Rattle.store.proofs.tags.value_at.Goals as goal
 
