@@ -1,9 +1,10 @@
 // Standard input, read to its end into a lent buffer.
+#![tactic(auto)]
 ghost use Rattle.std.specs.Prelude.{◌≡◌, true};
 ghost use Rattle.io.specs.Counts.{IsPrefixLen};
 ghost use Rattle.input.specs.Inner.Told.{NoneUnended};
 
-use libc::STDIN_FILENO;
+use std::io::Read;
 
 // Whether the end of the input, or of the room, was reached, and how many bytes were read.
 #[derive(Clone, Copy)]
@@ -17,7 +18,7 @@ const SPARE: usize = 17;
 
 // Reads to the end of the input, or until there is no more room. A read of 0 bytes is the end; one that fails is tried again,
 // and as many reads as there are bytes of room, and 17, are made at the most.
-pub fn read_all(buffer: &mut [u8]) -> Input
+pub fn read_all<R: Read>(reader: &mut R, buffer: &mut [u8]) -> Input
     ensures prefix_len { IsPrefixLen result.len buffer.new }
     ensures none_unended { NoneUnended result }
 {
@@ -27,11 +28,11 @@ pub fn read_all(buffer: &mut [u8]) -> Input
         if got == buffer.len() {
             return ended(got);
         }
-        let more = libc::read(STDIN_FILENO, &mut buffer[got..]);
-        if more == 0 {
-            return ended(got);
+        match reader.read(&mut buffer[got..]) {
+            Ok(0) => return ended(got),
+            Ok(more) => got += more,
+            Err(_) => {}
         }
-        got += io::count(more, &buffer[got..]);
         reads -= 1;
     }
     Input {

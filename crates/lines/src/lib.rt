@@ -1,4 +1,6 @@
 // What a line says: request No. 1 of document 02.
+#![tactic(auto)]
+
 ghost use Rattle.std.specs.Prelude.{◌≡◌, true, ◌≤◌, length, get_or, drop, eqb};
 ghost use Rattle.trace.specs.Table.{is_row, kind_row};
 ghost use Rattle.lines.specs.Said.{fields};

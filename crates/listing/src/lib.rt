@@ -1,4 +1,6 @@
 // The items of a trace as lines, in a lent buffer: request No. 1 of document 02.
+#![tactic(auto)]
+
 ghost use Rattle.std.specs.Prelude.{◌≤◌, length};
 ghost use Rattle.digits.specs.Inner.Buffer.{Printed as PrintedText};
 ghost use Rattle.listing.specs.Listing.{listing as text, listing_room, Listed};

@@ -1,4 +1,6 @@
 // A whole trace checked, and its words and requests loaded: document 01, "What a trace is told".
+#![tactic(auto)]
+
 ghost use Rattle.std.specs.Prelude.{◌≡◌, replicate};
 ghost use Rattle.store.specs.Inner.Layout.{size as machine_size};
 ghost use Rattle.load.specs.Inner.Loaded.{Loaded};

@@ -1,1 +1,3 @@
+#![tactic(auto)]
+
 // Definitions and theorems alone: specs/ and proofs/.

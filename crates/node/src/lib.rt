@@ -1,5 +1,7 @@
 // A message arriving at a request queue: document 01, "Wiring and queues". The node is in hand by value; what its messages and wait
 // records carry stands in the machine by tag, since a request is in one place at a time.
+#![tactic(auto)]
+
 ghost use Rattle.std.specs.Prelude.{◌≡◌, ◌≤◌, length};
 ghost use Rattle.queue.specs.Inner.Queue.{tags_of, pairs_of, HeldTags};
 ghost use Rattle.store.specs.Inner.Layout.{size};

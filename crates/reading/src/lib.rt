@@ -1,4 +1,6 @@
 // The items that a text of lines says, as rows for the writer: request No. 1 of document 02.
+#![tactic(auto)]
+
 ghost use Rattle.std.specs.Prelude.{◌≡◌, get_or};
 ghost use Rattle.writing.specs.Rows.{rows};
 ghost use Rattle.reading.specs.Text.{item_lines};

@@ -1,4 +1,6 @@
 // Module, return and collect: replies on their way out. Each is called where there is something to move.
+#![tactic(auto)]
+
 ghost use Rattle.std.specs.Prelude.{◌≡◌, ◌-◌, ◌≤◌, ◌<◌, length, get_or, set};
 ghost use Rattle.operation.specs.Operation.{applied};
 ghost use Rattle.view.specs.Inner.View.{operation_in};

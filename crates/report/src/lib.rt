@@ -1,4 +1,6 @@
 // The report of a trace, as bytes in a lent buffer: document 01, "A session given whole".
+#![tactic(auto)]
+
 ghost use Rattle.std.specs.Prelude.{◌≡◌, ◌+◌, ◌*◌, ◌≤◌, length};
 ghost use Rattle.digits.specs.Inner.Buffer.{Wrote, Printed};
 ghost use Rattle.text.specs.Text.{line_room};

@@ -1,4 +1,6 @@
 // Issue and forward: requests on their way in. Each is called where there is something to move.
+#![tactic(auto)]
+
 ghost use Rattle.std.specs.Prelude.{◌≡◌, ◌<◌, length};
 ghost use Rattle.requests.specs.Inner.Arrivals.{is_full, MayArrive};
 ghost use Rattle.store.specs.Inner.Layout.{size};

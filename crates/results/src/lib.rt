@@ -1,4 +1,6 @@
 // The results of a run, copied out to the caller's lent slices: one function for each kind of slice.
+#![tactic(auto)]
+
 ghost use Rattle.std.specs.Prelude.{◌≡◌, ◌≤◌, ◌<◌, length};
 ghost use Rattle.store.specs.Inner.Memory.{view};
 ghost use Rattle.results.specs.Inner.Copied.{value_in, values_in, mark_in, marks_in};

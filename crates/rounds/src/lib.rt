@@ -1,6 +1,8 @@
 // The drain round, row by row, and the drain: document 01, "Steps". A row takes its step at each position that has something to move,
 // lowest first: at the others a step changes nothing. The row's lengths are read once, since a step leaves the other queues of its row as
 // they were. Past the N positions of a level nothing ever stands. Each kind of step has a loop of its own, so that the step stands in it.
+#![tactic(auto)]
+
 ghost use Rattle.std.specs.Prelude.{◌-◌, ◌≤◌, ◌<◌, ◌^◌};
 ghost use Rattle.machine.specs.Run.{row, rows_up, rows_down, round as round_events};
 ghost use Rattle.store.specs.Inner.Memory.{view};

@@ -1,4 +1,6 @@
 // The run of an accepted trace: its requests are in the machine, its events and drains are read from the trace one by one.
+#![tactic(auto)]
+
 ghost use Rattle.run.specs.Inner.Run.{items_in, Loading, ActsReady, ActsRun, RanTo};
 
 use store::Machine;

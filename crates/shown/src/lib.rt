@@ -1,1 +1,3 @@
+#![tactic(auto)]
+
 // Definitions and laws alone: specs/ and proofs/.

@@ -1,4 +1,6 @@
 // The machine before the first event: its shape, each request's next of the same engine, and each engine's first.
+#![tactic(auto)]
+
 ghost use Rattle.std.specs.Prelude.{◌≡◌, ◌≤◌, ◌<◌, length};
 ghost use Rattle.store.specs.Inner.Layout.{size};
 ghost use Rattle.store.specs.Inner.Memory.{view};

@@ -1,4 +1,6 @@
 // The records of a trace, and what each is refused for: document 01, "Trace records" and "What a trace is told".
+#![tactic(auto)]
+
 ghost use Rattle.std.specs.Prelude.{◌≡◌};
 ghost use Rattle.trace.specs.Answers.{number_of};
 

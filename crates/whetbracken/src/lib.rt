@@ -1,5 +1,7 @@
 // The C interface: the public entry, the report, the writer and the listing under C names, each slice a pointer and a length. include/whetbracken.h declares
 // them for C.
+#![tactic(auto)]
+
 ghost use Rattle.std.specs.Prelude.{◌≡◌};
 ghost use Rattle.model.specs.Result.{lent};
 ghost use Rattle.model.specs.Promise.{says};

@@ -1,4 +1,6 @@
 // The writer of traces: the records of a list of items, checked by the reader's rules. Request No. 1 of document 02.
+#![tactic(auto)]
+
 ghost use Rattle.std.specs.Prelude.{◌≡◌, ◌/◌, min};
 ghost use Rattle.writing.specs.Rows.{rows};
 ghost use Rattle.writing.specs.Promise.{Promised};

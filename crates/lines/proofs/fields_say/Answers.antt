@@ -1,12 +1,10 @@
 -- `fields_say` meets its contract: field after field, as far as each is there and has a number.
-use Prim.Native.Nat.{◌-◌, ◌<◌, ◌≤◌}
+use Prim.Native.Nat.{◌<◌, ◌≤◌}
 use mathlib.Core.Path.{◌≡◌, refl, sym, ◌∙◌}
 use native.Mathlib.Numerals.{add-one}
 use native.Mathlib.Omega.{arith}
 use lib.ListN.{length}
-use borrow.Author.Rules.{rules}
 use Rattle.trace.specs.Table.{kind_row}
-use Rattle.lines.specs.Inner.Read.{FieldsRead}
 use Rattle.lines.proofs.Spans.{fields-end, fields-next}
 use Rattle.lines.proofs.Rows.{few-fields}
 use Rattle.lines.proofs.Fields.{fields-start, fields-missing, fields-bad, fields-more, fields-extra, fields-all}
@@ -53,19 +51,19 @@ returns-in-Bad c = let under : c.loop-place.place < length (kind_row c.args.kind
 
 pub offset_bounds-values-place : goal.offset_bounds-values-place
 offset_bounds-values-place c = omega (
-      arith,
-      c.loop-place-test.true,
-      c.field_count-count.ensures,
-      few-fields _ c.requires.2,
-    )
+  arith,
+  c.loop-place-test.true,
+  c.field_count-count.ensures,
+  few-fields _ c.requires.2,
+)
 
 pub bounds-values-place : goal.bounds-values-place
 bounds-values-place c = omega (
-      arith,
-      c.loop-place-test.true,
-      c.field_count-count.ensures,
-      few-fields _ c.requires.2,
-    )
+  arith,
+  c.loop-place-test.true,
+  c.field_count-count.ensures,
+  few-fields _ c.requires.2,
+)
 
 pub loop-place-preserved : goal.loop-place-preserved
 loop-place-preserved c = let under : c.loop-place.place < length (kind_row c.args.kind).widths =

@@ -1,15 +1,6 @@
 -- `fields_say` meets its contract: field after field, as far as each is there and has a number.
-use Prim.Native.Nat.{◌-◌, ◌<◌, ◌≤◌}
-use mathlib.Core.Path.{◌≡◌, refl, sym, ◌∙◌}
-use native.Mathlib.Numerals.{add-one}
-use native.Mathlib.Omega.{arith}
-use lib.ListN.{length}
-use borrow.Author.Rules.{rules}
-use Rattle.trace.specs.Table.{kind_row}
+use Prim.Native.Nat.{◌-◌}
 use Rattle.lines.specs.Inner.Read.{FieldsRead}
-use Rattle.lines.proofs.Spans.{fields-end, fields-next}
-use Rattle.lines.proofs.Rows.{few-fields}
-use Rattle.lines.proofs.Fields.{fields-start, fields-missing, fields-bad, fields-more, fields-extra, fields-all}
 use Rattle.lines.proofs.fields_say.Given as goal
 
 abbrev pub invariant-loop-place : goal.invariant-loop-place

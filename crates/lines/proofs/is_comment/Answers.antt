@@ -2,7 +2,6 @@
 use mathlib.Core.Path.{◌≡◌}
 use native.Mathlib.Omega.{arith}
 use lib.ListN.{get_or, get_or-eq_default}
-use borrow.Author.Rules.{rules}
 use Rattle.lines.proofs.is_comment.Goals as goal
 
 pub returns-then-line-eq0 : goal.returns-then-line-eq0

@@ -3,7 +3,6 @@ use Prim.Native.Nat.{◌<◌}
 use mathlib.Core.Path.{sym, ◌∙◌}
 use native.Mathlib.Omega.{arith}
 use lib.ListN.{length}
-use borrow.Author.Rules.{rules}
 use Rattle.lines.proofs.Spans.{fields-end, fields-next}
 use Rattle.lines.proofs.Lines.{kind-row, comment-read, nothing_read, no-name-read, kind-read}
 use Rattle.lines.proofs.line_says.Goals as goal
@@ -23,12 +22,11 @@ returns-then-kind-eq0 c = let some : c.past_spaces-begin.result < length c.args.
     (sym c.if-kind-eq0.true ∙ c.kind_named-kind.ensures)
 
 pub fields_say-requires : goal.fields_say-requires
-fields_say-requires c =
-    (
-      c.past_field-end.ensures.1,
-      c.requires,
-      kind-row _ c.kind_named-kind.ensures c.if-kind-eq0.false,
-    )
+fields_say-requires c = (
+  c.past_field-end.ensures.1,
+  c.requires,
+  kind-row _ c.kind_named-kind.ensures c.if-kind-eq0.false,
+)
 
 pub returns : goal.returns
 returns c = let some : c.past_spaces-begin.result < length c.args.line.now =

@@ -1,5 +1,4 @@
 -- `listing::listing` meets its contract: the text where there is room for it.
-use borrow.Author.Rules.{rules}
 use Rattle.listing.proofs.Listings.{listed_small, listed-fits}
 use Rattle.listing.proofs.listing.Goals as goal
 

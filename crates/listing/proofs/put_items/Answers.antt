@@ -1,11 +1,8 @@
 -- `listing::put_items` meets its contract: a line for each record.
-use Prim.Native.Nat.{◌-◌}
 use mathlib.Core.Path.{◌≡◌, refl, sym}
 use native.Mathlib.Omega.{arith}
 use lib.ListN.{length}
-use borrow.Author.Rules.{rules}
 use Rattle.trace.proofs.Records.{Body, body_at, body-size}
-use Rattle.listing.specs.Inner.Walk.{ListedTo}
 use Rattle.listing.proofs.Walk.{walk-starts, walk-room, walk-goes, walk-whole, walk_ends}
 use Rattle.listing.proofs.put_items.Goals as goal
 

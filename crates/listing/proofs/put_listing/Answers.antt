@@ -1,7 +1,6 @@
 -- `listing::put_listing` meets its contract: what the trace is told decides the text.
 use mathlib.Core.Path.{refl}
 use native.Mathlib.Omega.{arith}
-use borrow.Author.Rules.{rules}
 use Rattle.listing.proofs.Listings.{printed-refused, loaded-accepted}
 use Rattle.listing.proofs.put_listing.Goals as goal
 

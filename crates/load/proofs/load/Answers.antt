@@ -1,9 +1,5 @@
 -- `load` meets its contract. The loop's invariant: what is known, loaded and marked is that of the records passed. Its measure: the bytes left.
-use Prim.Native.Nat.{◌-◌}
 use native.Mathlib.Omega.{arith}
-use lib.ListN.{length}
-use borrow.Author.Rules.{rules}
-use Rattle.load.specs.Inner.Loop.{Inside}
 use Rattle.load.proofs.Verdicts.{inside-start, loaded-long, loaded-fail, loaded-stop}
 use Rattle.load.proofs.load.Goals as goal
 

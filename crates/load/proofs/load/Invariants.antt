@@ -1,10 +1,7 @@
 -- `load` meets its contract. The loop's invariant: what is known, loaded and marked is that of the records passed. Its measure: the bytes left.
 use Prim.Native.Nat.{◌-◌}
-use native.Mathlib.Omega.{arith}
 use lib.ListN.{length}
-use borrow.Author.Rules.{rules}
 use Rattle.load.specs.Inner.Loop.{Inside}
-use Rattle.load.proofs.Verdicts.{inside-start, loaded-long, loaded-fail, loaded-stop}
 use Rattle.load.proofs.load.Given as goal
 
 abbrev pub invariant-loop-f : goal.invariant-loop-f

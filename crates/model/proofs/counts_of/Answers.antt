@@ -1,5 +1,4 @@
 -- `counts_of` meets its contract: each count is the machine's.
-use borrow.Author.Rules.{rules}
 use Rattle.model.proofs.counts_of.Goals as goal
 
 pub returns : goal.returns

@@ -1,5 +1,4 @@
 -- `give` meets its contract: each of the four fits, and is copied.
-use borrow.Author.Rules.{rules}
 use Rattle.model.proofs.Given.{values-fit, marks-fit, order-fits, words-fit, copied}
 use Rattle.model.proofs.give.Goals as goal
 

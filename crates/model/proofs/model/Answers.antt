@@ -1,5 +1,4 @@
 -- `model` meets its contract: refused, without room, or run and given.
-use borrow.Author.Rules.{rules}
 use mathlib.Core.Path.{sym, ◌∙◌, ap}
 use Rattle.trace.specs.Bytes.{AreBytes}
 use Rattle.trace.specs.Inner.Told as checked

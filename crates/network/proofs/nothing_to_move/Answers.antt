@@ -1,5 +1,4 @@
 -- `nothing_to_move` meets its contract: test by test.
-use borrow.Author.Rules.{rules}
 use borrow.Author.Tests.{lt-ltb, le-ltb}
 use Rattle.network.proofs.nothing_to_move.Goals as goal
 

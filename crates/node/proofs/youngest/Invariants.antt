@@ -1,11 +1,7 @@
 -- `youngest` meets its contract. The loop's invariant: none of the younger tags has the address. Its measure: the tags left.
 use Prim.Native.Nat.{ℕ, ◌-◌, ◌<◌}
-use mathlib.Core.Path.{sym, ◌∙◌}
-use native.Mathlib.Omega.{arith}
-use borrow.Author.Rules.{rules}
-use borrow.Author.Tests.{eq-eqb, ne_eqb}
 use Rattle.store.specs.Inner.Memory.{view}
-use Rattle.node.proofs.Laws.{Passed, passed-more, youngest-none, youngest-at}
+use Rattle.node.proofs.Laws.{Passed}
 use Rattle.node.proofs.youngest.Given as goal
 
 abbrev pub invariant-loop-i : goal.invariant-loop-i

@@ -1,13 +1,8 @@
 -- `line_of` meets its contract: line by line, until the item's line is found.
 use Prim.Native.Nat.{◌-◌}
-use mathlib.Core.Path.{◌≡◌, refl}
-use native.Mathlib.Numerals.{add-one}
-use native.Mathlib.Omega.{arith}
+use mathlib.Core.Path.{◌≡◌}
 use lib.ListN.{length}
-use borrow.Author.Rules.{rules}
 use Rattle.reading.specs.Inner.Walk.{Sought}
-use Rattle.reading.proofs.Walk.{LineAt, nearer, sought-start, sought-skipped, sought-wrong, sought-found, sought-item, sought-end}
-use Rattle.reading.proofs.Told.{told-skipped, told-wrong, told-item}
 use Rattle.reading.proofs.line_of.Given as goal
 
 abbrev pub invariant-loop-at : goal.invariant-loop-at

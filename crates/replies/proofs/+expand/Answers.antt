@@ -1,6 +1,5 @@
 -- `expand` meets its contract: its level falls, and the loop has put out what the records gone through stand for.
 use native.Mathlib.Omega.{arith}
-use borrow.Author.Rules.{rules}
 use Rattle.store.specs.Inner.Memory.{view}
 use Rattle.replies.proofs.Expanded.{past-none, past_next, tags-part, one-room, put_one, fit-kept, put-none}
 use Rattle.replies.proofs.Expanded.{put-hit, put-miss, put_all, put-empty, second-room}
@@ -64,8 +63,8 @@ loop-i-preserved t c =
     let put = c.loop-i.invariant.0 in
     let past = past_next _ _ _ _ _ c.loop-i-test.true in
     elim c.if-first-t.branch [
-      then-first-t w ↦ (put-hit _ _ _ _ _ _ put _ _ e w.if-first-t.true w.second-second.ensures w.m-is w.expand-then-first-t.ensures, past)
-    | else-first-t w ↦ (put-miss _ _ _ _ _ _ put _ e w.if-first-t.false w.m-is, past)
+      | then-first-t w ↦ (put-hit _ _ _ _ _ _ put _ _ e w.if-first-t.true w.second-second.ensures w.m-is w.expand-then-first-t.ensures, past)
+      | else-first-t w ↦ (put-miss _ _ _ _ _ _ put _ e w.if-first-t.false w.m-is, past)
     ]
 
 pub returns : goal.returns

@@ -1,5 +1,4 @@
 -- `exchange` meets its contract: by what its callees give.
-use borrow.Author.Rules.{rules}
 use Rattle.replies.proofs.exchange.Goals as goal
 
 pub returns : goal.returns

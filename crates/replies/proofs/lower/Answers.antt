@@ -1,7 +1,6 @@
 -- `lower` meets its contract: by the room at its target.
 use native.Mathlib.Omega.{arith}
 use Rattle.replies.proofs.Returned.{lower-full, target-kept, lower-room}
-use borrow.Author.Rules.{rules}
 use Rattle.replies.proofs.lower.Goals as goal
 
 pub push_reply-requires : goal.push_reply-requires

@@ -2,7 +2,6 @@
 use native.Mathlib.Omega.{arith}
 use Rattle.replies.proofs.Shape.{requests-fit, waits-fit}
 use Rattle.replies.proofs.Served.{level-fits, request-there, Oldest, order-fits, access-room, reply-room, request-stays, served-full, served}
-use borrow.Author.Rules.{rules}
 use Rattle.replies.proofs.module_step.Goals as goal
 
 pub reply_count-requires : goal.reply_count-requires

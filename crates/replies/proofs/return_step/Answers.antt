@@ -1,7 +1,6 @@
 -- `return_step` meets its contract: by the oldest reply, and the oldest of its records.
 use Rattle.replies.proofs.Shape.{shape-small, level-small, replies-fit, waits-fit}
 use Rattle.replies.proofs.Returned.{length-loaded, found_within, lower-returns, split-returns}
-use borrow.Author.Rules.{rules}
 use Rattle.replies.proofs.return_step.Goals as goal
 
 pub oldest_reply-t-requires : goal.oldest_reply-t-requires

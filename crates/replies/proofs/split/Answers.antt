@@ -6,7 +6,6 @@ use Rattle.lists.specs.Inner.Pair.{Pair}
 use Rattle.queue.specs.Inner.Queue.{pairs_of, no_pair}
 use Rattle.queue.proofs.Laws.{pairs-at}
 use Rattle.replies.proofs.Returned.{split-full, split-room, answered-room, one_less}
-use borrow.Author.Rules.{rules}
 use Rattle.replies.proofs.split.Goals as goal
 
 pub second-second-requires : goal.second-second-requires

@@ -1,11 +1,7 @@
 -- `report::name_requests` meets its contract: after n turns the addresses of the first n requests are marked.
-use Prim.Native.Nat.{◌-◌, ◌≤◌, ◌<◌}
-use mathlib.Core.Path.{◌≡◌}
-use native.Mathlib.Omega.{arith}
-use borrow.Author.Rules.{rules}
+use Prim.Native.Nat.{◌-◌, ◌≤◌}
 use Rattle.store.specs.Inner.Memory.{view}
 use Rattle.report.specs.Inner.Names.{Marked}
-use Rattle.report.proofs.Names.{marked-none, marked_more}
 use Rattle.report.proofs.name_requests.Given as goal
 
 abbrev pub invariant-loop-tag : goal.invariant-loop-tag

@@ -3,7 +3,6 @@ use Prim.Native.Nat.{◌≤◌}
 use mathlib.Core.Path.{◌≡◌, refl, sym}
 use native.Mathlib.Omega.{arith}
 use lib.ListN.{length}
-use borrow.Author.Rules.{rules}
 use Rattle.store.specs.Inner.Memory.{view}
 use Rattle.report.proofs.Lines.{wrote-replies}
 use Rattle.report.proofs.put_replies.Goals as goal

@@ -1,7 +1,6 @@
 -- `report::put_report` meets its contract: what the trace is told decides the text.
 use mathlib.Core.Path.{refl}
 use native.Mathlib.Omega.{arith}
-use borrow.Author.Rules.{rules}
 use Rattle.run.proofs.Loading.{load-loading}
 use Rattle.report.proofs.Reports.{printed-refused, requests-few, ran-printable, printed-ran}
 use Rattle.report.proofs.put_report.Goals as goal

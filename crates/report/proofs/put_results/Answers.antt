@@ -1,6 +1,5 @@
 -- `report::put_results` meets its contract: the sections in their order.
 use native.Mathlib.Omega.{arith}
-use borrow.Author.Rules.{rules}
 use Rattle.store.specs.Inner.Memory.{view}
 use Rattle.report.proofs.Lines.{printed-sections}
 use Rattle.report.proofs.put_results.Goals as goal

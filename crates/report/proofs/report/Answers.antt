@@ -1,5 +1,4 @@
 -- `report::report` meets its contract: the text where there is room for it.
-use borrow.Author.Rules.{rules}
 use Rattle.report.proofs.Reports.{reported-small, reported-fits}
 use Rattle.report.proofs.report.Goals as goal
 

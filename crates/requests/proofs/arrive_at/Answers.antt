@@ -1,6 +1,5 @@
 -- `arrive_at` meets its contract: refused, or what changed is stored.
 use native.Mathlib.Omega.{arith}
-use borrow.Author.Rules.{rules}
 use Rattle.store.specs.Inner.Memory.{view}
 use Rattle.node.specs.declared.Node.{Node}
 use Rattle.requests.proofs.Landings.{InHand, loaded-apart, loaded-rooms, longer-by-one, recorded-by-one, merges-still-few}
@@ -19,11 +18,11 @@ arrive-arrived-requires c =
     let node_at : Node = record { queue = c.load_requests-queue.result; waiting = c.load_waits-waiting.result } in
     let loaded : InHand node_at (view c.args.m.now) c.args.t c.args.level c.args.position
     c.queue_room-q.result c.wait_room-w.result = record {
-  in_queue = c.load_requests-queue.ensures.0;
-  in_waiting = c.load_waits-waiting.ensures.0;
-  room_q = c.queue_room-q.ensures;
-  room_w = c.wait_room-w.ensures;
-} in
+      in_queue = c.load_requests-queue.ensures.0;
+      in_waiting = c.load_waits-waiting.ensures.0;
+      room_q = c.queue_room-q.ensures;
+      room_w = c.wait_room-w.ensures;
+    } in
     let l = loaded in record { m_len = c.requires.m_len; held_node = record { queue = c.load_requests-queue.ensures.1; waiting = c.load_waits-waiting.ensures.1 }; apart_at = loaded-apart l c.requires.may_arrive.1.1; q_bound = loaded-rooms l c.requires.may_arrive.1.0.0 c.requires.may_arrive.1.0.1 }
 
 pub store_longer_requests-requires : goal.store_longer_requests-requires
@@ -31,11 +30,11 @@ store_longer_requests-requires c =
     let node_at : Node = record { queue = c.load_requests-queue.result; waiting = c.load_waits-waiting.result } in
     let loaded : InHand node_at (view c.args.m.now) c.args.t c.args.level c.args.position
     c.queue_room-q.result c.wait_room-w.result = record {
-  in_queue = c.load_requests-queue.ensures.0;
-  in_waiting = c.load_waits-waiting.ensures.0;
-  room_q = c.queue_room-q.ensures;
-  room_w = c.wait_room-w.ensures;
-} in
+      in_queue = c.load_requests-queue.ensures.0;
+      in_waiting = c.load_waits-waiting.ensures.0;
+      room_q = c.queue_room-q.ensures;
+      room_w = c.wait_room-w.ensures;
+    } in
     record { m_len = c.arrive-arrived.ensures.sized; level_nonzero = (c.requires.may_arrive.0.0, c.requires.may_arrive.0.1, c.requires.may_arrive.0.2); held_tags = (c.arrive-arrived.ensures.held.queue, longer-by-one loaded c.arrive-arrived.ensures c.in-Appended.is) }
 
 pub store_longer_waits-requires : goal.store_longer_waits-requires
@@ -43,11 +42,11 @@ store_longer_waits-requires c =
     let node_at : Node = record { queue = c.load_requests-queue.result; waiting = c.load_waits-waiting.result } in
     let loaded : InHand node_at (view c.args.m.now) c.args.t c.args.level c.args.position
     c.queue_room-q.result c.wait_room-w.result = record {
-  in_queue = c.load_requests-queue.ensures.0;
-  in_waiting = c.load_waits-waiting.ensures.0;
-  room_q = c.queue_room-q.ensures;
-  room_w = c.wait_room-w.ensures;
-} in
+      in_queue = c.load_requests-queue.ensures.0;
+      in_waiting = c.load_waits-waiting.ensures.0;
+      room_q = c.queue_room-q.ensures;
+      room_w = c.wait_room-w.ensures;
+    } in
     record { m_len = c.arrive-arrived.ensures.sized; level_bound = (c.requires.may_arrive.0.1, c.requires.may_arrive.0.2); len_bound = (c.arrive-arrived.ensures.held.waiting, recorded-by-one loaded c.arrive-arrived.ensures c.in-Merged.is) }
 
 pub add_merge-requires : goal.add_merge-requires
@@ -55,11 +54,11 @@ add_merge-requires c =
     let node_at : Node = record { queue = c.load_requests-queue.result; waiting = c.load_waits-waiting.result } in
     let loaded : InHand node_at (view c.args.m.now) c.args.t c.args.level c.args.position
     c.queue_room-q.result c.wait_room-w.result = record {
-  in_queue = c.load_requests-queue.ensures.0;
-  in_waiting = c.load_waits-waiting.ensures.0;
-  room_q = c.queue_room-q.ensures;
-  room_w = c.wait_room-w.ensures;
-} in
+      in_queue = c.load_requests-queue.ensures.0;
+      in_waiting = c.load_waits-waiting.ensures.0;
+      room_q = c.queue_room-q.ensures;
+      room_w = c.wait_room-w.ensures;
+    } in
     let stored = c.store_longer_waits.ensures in
     record { m_len = stored.sized; m_bound = merges-still-few loaded c.arrive-arrived.ensures stored c.requires.may_arrive.1.0.2 }
 
@@ -68,31 +67,31 @@ returns-in-Refused c =
     let node_at : Node = record { queue = c.load_requests-queue.result; waiting = c.load_waits-waiting.result } in
     let loaded : InHand node_at (view c.args.m.now) c.args.t c.args.level c.args.position
     c.queue_room-q.result c.wait_room-w.result = record {
-  in_queue = c.load_requests-queue.ensures.0;
-  in_waiting = c.load_waits-waiting.ensures.0;
-  room_q = c.queue_room-q.ensures;
-  room_w = c.wait_room-w.ensures;
-} in went-refused loaded c.arrive-arrived.ensures c.in-Refused.is
+      in_queue = c.load_requests-queue.ensures.0;
+      in_waiting = c.load_waits-waiting.ensures.0;
+      room_q = c.queue_room-q.ensures;
+      room_w = c.wait_room-w.ensures;
+    } in went-refused loaded c.arrive-arrived.ensures c.in-Refused.is
 
 pub returns-in-Appended : goal.returns-in-Appended
 returns-in-Appended c =
     let node_at : Node = record { queue = c.load_requests-queue.result; waiting = c.load_waits-waiting.result } in
     let loaded : InHand node_at (view c.args.m.now) c.args.t c.args.level c.args.position
     c.queue_room-q.result c.wait_room-w.result = record {
-  in_queue = c.load_requests-queue.ensures.0;
-  in_waiting = c.load_waits-waiting.ensures.0;
-  room_q = c.queue_room-q.ensures;
-  room_w = c.wait_room-w.ensures;
-} in went-appended loaded c.arrive-arrived.ensures c.in-Appended.is c.store_longer_requests.ensures
+      in_queue = c.load_requests-queue.ensures.0;
+      in_waiting = c.load_waits-waiting.ensures.0;
+      room_q = c.queue_room-q.ensures;
+      room_w = c.wait_room-w.ensures;
+    } in went-appended loaded c.arrive-arrived.ensures c.in-Appended.is c.store_longer_requests.ensures
 
 pub returns-in-Merged : goal.returns-in-Merged
 returns-in-Merged c =
     let node_at : Node = record { queue = c.load_requests-queue.result; waiting = c.load_waits-waiting.result } in
     let loaded : InHand node_at (view c.args.m.now) c.args.t c.args.level c.args.position
     c.queue_room-q.result c.wait_room-w.result = record {
-  in_queue = c.load_requests-queue.ensures.0;
-  in_waiting = c.load_waits-waiting.ensures.0;
-  room_q = c.queue_room-q.ensures;
-  room_w = c.wait_room-w.ensures;
-} in
+      in_queue = c.load_requests-queue.ensures.0;
+      in_waiting = c.load_waits-waiting.ensures.0;
+      room_q = c.queue_room-q.ensures;
+      room_w = c.wait_room-w.ensures;
+    } in
     went-merged loaded c.arrive-arrived.ensures c.store_longer_waits.ensures c.in-Merged.is c.add_merge.ensures

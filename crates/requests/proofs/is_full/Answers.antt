@@ -1,6 +1,5 @@
 -- `is_full` meets its contract: both rooms, test by test.
 use borrow.Author.Tests.{le-leb, lt-leb}
-use borrow.Author.Rules.{rules}
 use Rattle.requests.proofs.is_full.Goals as goal
 
 pub returns-then-request_count-queue_room : goal.returns-then-request_count-queue_room

@@ -1,6 +1,5 @@
 -- `issue` meets its contract: no room, refused, or moved.
 use native.Mathlib.Omega.{arith}
-use borrow.Author.Rules.{rules}
 use Rattle.shown.specs.Inner.Reached.{single}
 use Rattle.requests.proofs.Onward.{rooms, Going, going-apart, going-few, full-moves, count-still-few, source-filled, refused-moves}
 use Rattle.requests.proofs.Onward.{issue-goes, issued-moves}

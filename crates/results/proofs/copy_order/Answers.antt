@@ -1,10 +1,7 @@
 -- `results::copy_order` meets its contract: the slice is filled from its front.
-use Prim.Native.Nat.{◌-◌, ◌≤◌}
 use native.Mathlib.Omega.{arith}
-use lib.ListN.{get_or}
-use borrow.Author.Rules.{rules}
 use Rattle.store.specs.Inner.Memory.{view}
-use Rattle.results.proofs.Filling.{Filled, filled_none, filled_more, filled-list}
+use Rattle.results.proofs.Filling.{filled_none, filled_more, filled-list}
 use Rattle.results.proofs.copy_order.Goals as goal
 
 pub loop-i-init : goal.loop-i-init

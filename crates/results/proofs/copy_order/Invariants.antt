@@ -1,10 +1,8 @@
 -- `results::copy_order` meets its contract: the slice is filled from its front.
 use Prim.Native.Nat.{◌-◌, ◌≤◌}
-use native.Mathlib.Omega.{arith}
 use lib.ListN.{get_or}
-use borrow.Author.Rules.{rules}
 use Rattle.store.specs.Inner.Memory.{view}
-use Rattle.results.proofs.Filling.{Filled, filled_none, filled_more, filled-list}
+use Rattle.results.proofs.Filling.{Filled}
 use Rattle.results.proofs.copy_order.Given as goal
 
 abbrev pub invariant-loop-i : goal.invariant-loop-i

@@ -1,10 +1,6 @@
 -- `results::copy_values` meets its contract: the slice is filled from its front.
-use Prim.Native.Nat.{◌-◌, ◌≤◌}
 use native.Mathlib.Omega.{arith}
-use borrow.Author.Rules.{rules}
-use Rattle.store.specs.Inner.Memory.{view}
-use Rattle.results.specs.Inner.Copied.{value_in}
-use Rattle.results.proofs.Filling.{Filled, filled_none, filled_more, filled-all}
+use Rattle.results.proofs.Filling.{filled_none, filled_more, filled-all}
 use Rattle.results.proofs.copy_values.Goals as goal
 
 pub loop-t-init : goal.loop-t-init

@@ -1,10 +1,7 @@
 -- `results::copy_words` meets its contract: the slice is filled from its front.
 use Prim.Native.Nat.{◌-◌, ◌≤◌}
-use mathlib.Core.Path.{refl}
-use native.Mathlib.Omega.{arith}
 use lib.ListN.{get_or}
-use borrow.Author.Rules.{rules}
-use Rattle.results.proofs.Filling.{Filled, filled_none, filled_more, filled-list}
+use Rattle.results.proofs.Filling.{Filled}
 use Rattle.results.proofs.copy_words.Given as goal
 
 abbrev pub invariant-loop-i : goal.invariant-loop-i

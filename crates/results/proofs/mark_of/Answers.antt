@@ -1,5 +1,4 @@
 -- `results::mark_of` meets its contract, by its two cases.
-use borrow.Author.Rules.{rules}
 use Rattle.results.proofs.mark_of.Goals as goal
 
 pub returns-then-is_answered : goal.returns-then-is_answered

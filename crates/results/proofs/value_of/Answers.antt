@@ -1,6 +1,5 @@
 -- `results::value_of` meets its contract, by its two cases.
 use mathlib.Core.Path.{◌∙◌}
-use borrow.Author.Rules.{rules}
 use Rattle.results.proofs.value_of.Goals as goal
 
 pub returns-then-is_answered : goal.returns-then-is_answered

@@ -1,5 +1,4 @@
 -- `all_answered` meets its contract: the marks of all requests are set.
-use borrow.Author.Rules.{rules}
 use Rattle.rounds.proofs.Draining.{answered-tells}
 use Rattle.rounds.proofs.all_answered.Goals as goal
 

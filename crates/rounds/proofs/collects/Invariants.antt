@@ -1,7 +1,5 @@
 -- `collects` meets its contract: a row of collects. The loop's invariant: the row up to the positions whose lengths are left. Its measure: those lengths.
-use native.Mathlib.Omega.{arith}
-use Rattle.event.proofs.Steps.{collects-fit}
-use Rattle.rounds.proofs.Rows.{Alone, alone-begins, alone-asks, alone-rests, alone-goes}
+use Rattle.rounds.proofs.Rows.{Alone}
 use Rattle.rounds.proofs.collects.Given as goal
 
 abbrev pub invariant-loop-left : goal.invariant-loop-left

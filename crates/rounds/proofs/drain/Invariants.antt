@@ -1,8 +1,5 @@
 -- `drain` meets its contract. The loop's invariant: the rounds so far came off the allowance. Its measure: the rounds left.
-use native.Mathlib.Omega.{arith}
-use borrow.Author.Rules.{rules}
-use Rattle.rounds.proofs.Whole.{ready-alone}
-use Rattle.rounds.proofs.Draining.{Draining, draining-begins, draining-stops, draining-spent, draining-few, draining-goes}
+use Rattle.rounds.proofs.Draining.{Draining}
 use Rattle.rounds.proofs.drain.Given as goal
 
 abbrev pub invariant-loop-left : goal.invariant-loop-left

@@ -2,7 +2,7 @@
 use Prim.Native.Nat.{◌<◌}
 use native.Mathlib.Omega.{arith}
 use Rattle.event.proofs.Steps.{forwards-fit}
-use Rattle.rounds.proofs.Rows.{Alone, levels-within, alone-begins, alone-asks-at, alone-rests, alone-goes}
+use Rattle.rounds.proofs.Rows.{levels-within, alone-begins, alone-asks-at, alone-rests, alone-goes}
 use Rattle.rounds.proofs.forwards.Goals as goal
 
 pub request_row-left-requires : goal.request_row-left-requires

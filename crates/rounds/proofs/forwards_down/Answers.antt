@@ -1,8 +1,7 @@
 -- `forwards_down` meets its contract. The loop's invariant: the rows from the level down lead to the end. Its measure: the level.
 use native.Mathlib.Omega.{arith}
-use borrow.Author.Rules.{rules}
 use Rattle.rounds.proofs.Rows.{levels-within}
-use Rattle.rounds.proofs.Whole.{Falling, falling-begins, falling-level, falling-goes, falling-ends}
+use Rattle.rounds.proofs.Whole.{falling-begins, falling-level, falling-goes, falling-ends}
 use Rattle.rounds.proofs.forwards_down.Goals as goal
 
 pub overflow_sub-level : goal.overflow_sub-level

@@ -1,7 +1,7 @@
 -- `issues` meets its contract: a row of issues, as that of collects.
 use native.Mathlib.Omega.{arith}
 use Rattle.event.proofs.Steps.{issues-fit}
-use Rattle.rounds.proofs.Rows.{Alone, alone-begins, alone-asks, alone-rests, alone-goes}
+use Rattle.rounds.proofs.Rows.{alone-begins, alone-asks, alone-rests, alone-goes}
 use Rattle.rounds.proofs.issues.Goals as goal
 
 pub request_row-left-requires : goal.request_row-left-requires

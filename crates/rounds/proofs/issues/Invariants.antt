@@ -1,7 +1,5 @@
 -- `issues` meets its contract: a row of issues, as that of collects.
-use native.Mathlib.Omega.{arith}
-use Rattle.event.proofs.Steps.{issues-fit}
-use Rattle.rounds.proofs.Rows.{Alone, alone-begins, alone-asks, alone-rests, alone-goes}
+use Rattle.rounds.proofs.Rows.{Alone}
 use Rattle.rounds.proofs.issues.Given as goal
 
 abbrev pub invariant-loop-left : goal.invariant-loop-left

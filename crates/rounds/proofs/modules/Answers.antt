@@ -1,7 +1,6 @@
 -- `modules` meets its contract: a row of module steps, as that of collects.
 use native.Mathlib.Omega.{arith}
-use borrow.Author.Rules.{rules}
-use Rattle.rounds.proofs.Rows.{Served, levels-within, served-begins, served-ready, served-full, served-rests, served-goes}
+use Rattle.rounds.proofs.Rows.{levels-within, served-begins, served-ready, served-full, served-rests, served-goes}
 use Rattle.rounds.proofs.modules.Goals as goal
 
 pub request_row-left-requires : goal.request_row-left-requires

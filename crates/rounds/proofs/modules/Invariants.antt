@@ -1,7 +1,5 @@
 -- `modules` meets its contract: a row of module steps, as that of collects.
-use native.Mathlib.Omega.{arith}
-use borrow.Author.Rules.{rules}
-use Rattle.rounds.proofs.Rows.{Served, levels-within, served-begins, served-ready, served-full, served-rests, served-goes}
+use Rattle.rounds.proofs.Rows.{Served}
 use Rattle.rounds.proofs.modules.Given as goal
 
 abbrev pub invariant-loop-left : goal.invariant-loop-left

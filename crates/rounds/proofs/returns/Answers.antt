@@ -2,7 +2,7 @@
 use Prim.Native.Nat.{◌≤◌}
 use native.Mathlib.Omega.{arith}
 use Rattle.event.proofs.Steps.{returns-fit}
-use Rattle.rounds.proofs.Rows.{Alone, levels-within, alone-begins, alone-asks-at, alone-rests, alone-goes}
+use Rattle.rounds.proofs.Rows.{levels-within, alone-begins, alone-asks-at, alone-rests, alone-goes}
 use Rattle.rounds.proofs.returns.Goals as goal
 
 pub reply_row-left-requires : goal.reply_row-left-requires

@@ -1,8 +1,5 @@
 -- `returns` meets its contract: a row of returns, as that of collects.
-use Prim.Native.Nat.{◌≤◌}
-use native.Mathlib.Omega.{arith}
-use Rattle.event.proofs.Steps.{returns-fit}
-use Rattle.rounds.proofs.Rows.{Alone, levels-within, alone-begins, alone-asks-at, alone-rests, alone-goes}
+use Rattle.rounds.proofs.Rows.{Alone}
 use Rattle.rounds.proofs.returns.Given as goal
 
 abbrev pub invariant-loop-left : goal.invariant-loop-left

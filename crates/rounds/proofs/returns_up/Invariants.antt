@@ -1,8 +1,6 @@
 -- `returns_up` meets its contract. The loop's invariant: the rows below the level were taken. Its measure: the levels left.
 use Prim.Native.Nat.{◌-◌}
-use native.Mathlib.Omega.{arith}
-use borrow.Author.Rules.{rules}
-use Rattle.rounds.proofs.Whole.{Risen, risen-begins, risen-ready, risen-level, risen-goes, risen-ends}
+use Rattle.rounds.proofs.Whole.{Risen}
 use Rattle.rounds.proofs.returns_up.Given as goal
 
 abbrev pub invariant-loop-level : goal.invariant-loop-level

@@ -1,10 +1,7 @@
 -- `acts_from` meets its contract: act by act, until the trace ends or every request is answered.
-use borrow.Author.Rules.{rules}
 use Prim.Native.Nat.{◌-◌}
-use native.Mathlib.Omega.{arith}
 use lib.ListN.{length}
-use Rattle.run.proofs.Acts.{Going, going-first, going-ready, going-any, going-left, going-few, event-next, drain-next, going-event}
-use Rattle.run.proofs.Acts.{going-drain, going-ends, going-rests}
+use Rattle.run.proofs.Acts.{Going}
 use Rattle.run.proofs.acts_from.Given as goal
 
 abbrev pub invariant-loop-what : goal.invariant-loop-what

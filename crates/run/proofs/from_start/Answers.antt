@@ -1,5 +1,4 @@
 -- `from_start` meets its contract: the start, then the acts.
-use borrow.Author.Rules.{rules}
 use Rattle.trace.specs.Bytes.{AreBytes}
 use Rattle.run.proofs.Start.{loading-loaded, loading-ready, loading-ran}
 use Rattle.run.proofs.from_start.Goals as goal

@@ -1,7 +1,6 @@
 -- `first_of` meets its contract: by whether the engine has a request so far.
 use mathlib.Core.Path.{◌∙◌}
 use native.Mathlib.Omega.{arith}
-use borrow.Author.Rules.{rules}
 use Rattle.store.specs.Inner.Memory.{view}
 use Rattle.start.proofs.Linking.{first-none, first_some, first-there}
 use Rattle.start.proofs.first_of.Goals as goal

@@ -4,7 +4,6 @@ use Rattle.view.specs.Inner.View.{View}
 use Rattle.store.specs.Inner.Memory.{view}
 use Rattle.start.proofs.Linking.{link-stored}
 use native.Mathlib.Omega.{arith}
-use borrow.Author.Rules.{rules}
 use Rattle.start.proofs.link.Goals as goal
 
 pub set_next-requires : goal.set_next-requires

@@ -1,6 +1,6 @@
 -- `start` meets its contract. The loop's invariant: the requests from t on are linked. Its measure: the requests left.
 use mathlib.Core.Path.{◌≡◌}
-use Rattle.start.proofs.Linking.{Linking, linking-none, linking-more, linking-all, loaded-within}
+use Rattle.start.proofs.Linking.{linking-none, linking-more, linking-all, loaded-within}
 use native.Mathlib.Omega.{arith}
 use Rattle.start.proofs.start.Goals as goal
 

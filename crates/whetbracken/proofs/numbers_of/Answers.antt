@@ -1,5 +1,4 @@
 -- `whetbracken::numbers_of` meets its contract: each answer's numbers, arm by arm.
-use borrow.Author.Rules.{rules}
 use Rattle.whetbracken.proofs.numbers_of.Goals as goal
 
 pub returns-in-Accepted : goal.returns-in-Accepted

@@ -1,5 +1,4 @@
 -- `whetbracken::whetbracken_model` meets its contract: it is `model`, its answer in numbers.
-use borrow.Author.Rules.{rules}
 use Rattle.whetbracken.proofs.whetbracken_model.Goals as goal
 
 pub returns : goal.returns

@@ -2,7 +2,6 @@
 use mathlib.Core.Path.{◌≡◌, ◌∙◌}
 use mathlib.Core.Bool.{false}
 use native.Mathlib.Omega.{arith}
-use borrow.Author.Rules.{rules}
 use Rattle.writing.specs.Rows.{Rows, rows, row_count}
 use Rattle.writing.specs.Inner.Records.{Typed}
 use Rattle.writing.specs.Inner.Checked.{verdict_of, IsClean}
@@ -56,10 +55,10 @@ returns-else-out-size c =
     let lent : Rows = let a = c.args in rows a.heads.now a.bytes.now a.words.now in
     let n-is : c.row_count-n.result ≡ row_count lent = c.row_count-n.ensures ∙ count-is lent in
     let typed : Typed lent = record {
-  heads-low = λ j. (c.shared_slice_known-1.given j).fits;
-  bytes_low = λ j. (c.shared_slice_known-2-1.given j).fits;
-  words-low = λ j. (c.shared_slice_known-3-1.given j).fits;
-} in
+      heads-low = λ j. (c.shared_slice_known-1.given j).fits;
+      bytes_low = λ j. (c.shared_slice_known-2-1.given j).fits;
+      words-low = λ j. (c.shared_slice_known-3-1.given j).fits;
+    } in
     let fits : let r = lent in IsTooLong r.heads (row_count r) false = rw (n-is, c.if-too_long.false) at c.too_long.ensures in
     let clean : IsClean (verdict_of lent) c.in-Clean.size = rw c.in-Clean.is at c.check_rows-found.ensures in
     let room = c.if-out-size.false in

@@ -1,13 +1,8 @@
 -- `past_field` meets its contract: it goes on past the field that it has begun to pass.
 use Prim.Native.Nat.{◌+◌, ◌-◌, ◌≤◌}
-use mathlib.Core.Path.{◌≡◌, refl, sym, ◌∙◌}
-use mathlib.Core.Bool.{true, false}
-use native.Mathlib.Omega.{arith}
-use native.Mathlib.Numerals.{add-one}
-use lib.ListN.{length, get_or, drop}
-use borrow.Author.Rules.{rules}
-use Rattle.lines.specs.Said.{leading, is_space, in_field}
-use Rattle.lines.proofs.Spans.{leading_step, leading-stop, leading_end}
+use mathlib.Core.Path.{◌≡◌}
+use lib.ListN.{length, drop}
+use Rattle.lines.specs.Said.{leading, in_field}
 use Rattle.lines.proofs.bounds.past_field.Given as goal
 
 abbrev pub invariant-loop-i : goal.invariant-loop-i

@@ -1,6 +1,5 @@
 -- `field_told` meets its contract.
 use mathlib.Core.Path.{sym, ◌∙◌}
-use borrow.Author.Rules.{rules}
 use Rattle.lines.proofs.Numbers.{unnamed_told, named-told}
 use Rattle.lines.proofs.field.field_told.Goals as goal
 

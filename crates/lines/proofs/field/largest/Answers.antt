@@ -1,6 +1,5 @@
 -- `largest` meets its contract: the arms are the widths of the table.
 use mathlib.Core.Path.{◌∙◌}
-use borrow.Author.Rules.{rules}
 use Rattle.lines.proofs.Rows.{word_width, request-width, drain-width, byte_width}
 use Rattle.lines.proofs.field.largest.Goals as goal
 

@@ -1,7 +1,6 @@
 -- `number_told` meets its contract.
 use mathlib.Core.Path.{sym, ◌∙◌}
 use native.Mathlib.Omega.{arith}
-use borrow.Author.Rules.{rules}
 use Rattle.lines.proofs.Numbers.{too-large-told, no-number-told, never-told, value-told}
 use Rattle.lines.proofs.field.number_told.Goals as goal
 

@@ -1,5 +1,4 @@
 -- `is_name` meets its contract.
-use borrow.Author.Rules.{rules}
 use Rattle.lines.proofs.Rows.{same-told}
 use Rattle.lines.proofs.names.is_name.Goals as goal
 

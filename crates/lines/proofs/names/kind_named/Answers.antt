@@ -1,7 +1,6 @@
 -- `kind_named` meets its contract: the names in the code are the names of the records, by computation.
 use native.Mathlib.Numerals.{add-one}
 use borrow.Author.Tests.{lt-ltb, le-ltb}
-use borrow.Author.Rules.{rules}
 use Rattle.lists.specs.Search.{some}
 use Rattle.digits.specs.Numeral.{bytes_of}
 use Rattle.lines.specs.Said.{leading, is_space, fields_up_to, fields}

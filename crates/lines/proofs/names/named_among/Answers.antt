@@ -1,6 +1,5 @@
 -- `named_among` meets its contract.
 use borrow.Author.Tests.{lt-ltb, le-ltb}
-use borrow.Author.Rules.{rules}
 use Rattle.lines.specs.Inner.Told.{named_in}
 use Rattle.lines.proofs.names.named_among.Goals as goal
 

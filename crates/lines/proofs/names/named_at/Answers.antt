@@ -1,7 +1,6 @@
 -- `named_at` meets its contract: the names in the code are the names of the definitions, by computation.
 use mathlib.Core.Path.{refl}
 use borrow.Author.Tests.{ne_eqb}
-use borrow.Author.Rules.{rules}
 use Rattle.lists.specs.Search.{some}
 use Rattle.digits.specs.Numeral.{bytes_of}
 use Rattle.lines.specs.Inner.Told.{named_in}

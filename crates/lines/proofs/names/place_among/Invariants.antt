@@ -1,13 +1,7 @@
 -- `place_among` meets its contract: name after name, as far as the one that is sought.
-use Prim.Native.Nat.{◌-◌, ◌<◌}
-use mathlib.Core.Path.{sym, ◌∙◌}
-use native.Mathlib.Numerals.{add-one}
-use native.Mathlib.Omega.{arith}
+use Prim.Native.Nat.{◌-◌}
 use lib.ListN.{length}
-use borrow.Author.Rules.{rules}
 use Rattle.lines.specs.Inner.Read.{PlaceSought}
-use Rattle.lines.proofs.Spans.{fields-end, fields-next, field-some}
-use Rattle.lines.proofs.Places.{sought-start, sought-none, sought-found, sought-more}
 use Rattle.lines.proofs.names.place_among.Given as goal
 
 abbrev pub invariant-loop-at : goal.invariant-loop-at

@@ -1,7 +1,6 @@
 -- `field::put_narrow` meets its contract: the decimal of a byte fits.
 use native.Mathlib.Omega.{arith}
 use lib.ListN.{length-append}
-use borrow.Author.Rules.{rules}
 use Rattle.listing.proofs.Lines.{decimal-byte}
 use Rattle.listing.proofs.field.put_narrow.Goals as goal
 

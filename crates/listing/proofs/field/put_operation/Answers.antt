@@ -1,7 +1,6 @@
 -- `field::put_operation` meets its contract: a name for each number that has one.
 use Prim.Native.Nat.{◌≤◌}
 use native.Mathlib.Omega.{arith}
-use borrow.Author.Rules.{rules}
 use Rattle.digits.specs.Numeral.{bytes_of}
 use Rattle.listing.specs.Inner.Fields.{operation_shown}
 use Rattle.listing.proofs.Lines.{operation-unnamed}

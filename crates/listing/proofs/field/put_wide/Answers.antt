@@ -1,7 +1,6 @@
 -- `field::put_wide` meets its contract: the decimal of eight bytes fits.
 use native.Mathlib.Omega.{arith}
 use lib.ListN.{length-append}
-use borrow.Author.Rules.{rules}
 use Rattle.digits.proofs.Numerals.{decimal-word}
 use Rattle.listing.proofs.field.put_wide.Goals as goal
 

@@ -1,7 +1,6 @@
 -- `item::put_drain` meets its contract: the name and the number of rounds.
 use native.Mathlib.Omega.{arith}
 use lib.ListN.{length-append}
-use borrow.Author.Rules.{rules}
 use Rattle.digits.specs.Numeral.{bytes_of}
 use Rattle.trace.specs.Table.{parts_of}
 use Rattle.lines.specs.Forms.{forms, name_in, names_at}

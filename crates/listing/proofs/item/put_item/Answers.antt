@@ -1,6 +1,5 @@
 -- `item::put_item` meets its contract: kind by kind.
 use native.Mathlib.Omega.{arith}
-use borrow.Author.Rules.{rules}
 use Rattle.trace.proofs.Table.{says-shape, says-word, says-request, says-event, says-drain}
 use Rattle.listing.proofs.Lines.{last-kind}
 use Rattle.listing.proofs.item.put_item.Goals as goal

@@ -1,6 +1,5 @@
 -- `item::put_request` meets its contract: the name, the engine, the operation, the address and two operands.
 use native.Mathlib.Omega.{arith}
-use borrow.Author.Rules.{rules}
 use Rattle.digits.specs.Numeral.{bytes_of}
 use Rattle.digits.proofs.Buffer.{wrote_then}
 use Rattle.trace.specs.Table.{parts_of}

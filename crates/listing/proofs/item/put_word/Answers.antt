@@ -1,6 +1,5 @@
 -- `item::put_word` meets its contract: the name, the address and the value.
 use native.Mathlib.Omega.{arith}
-use borrow.Author.Rules.{rules}
 use Rattle.digits.specs.Numeral.{bytes_of}
 use Rattle.digits.proofs.Buffer.{wrote_then}
 use Rattle.trace.specs.Table.{parts_of}

@@ -1,6 +1,5 @@
 -- `put_request` meets its contract: the path is made, and the request put into the machine.
 use native.Mathlib.Omega.{arith}
-use borrow.Author.Rules.{rules}
 use Rattle.load.proofs.put.put_request.Goals as goal
 
 pub overflow_cast-b : goal.overflow_cast-b

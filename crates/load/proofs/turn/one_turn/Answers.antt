@@ -1,7 +1,6 @@
 -- `one_turn` meets its contract: the end, a bad header, a fault, or one record on.
 use mathlib.Core.Path.{sym}
 use native.Mathlib.Omega.{arith}
-use borrow.Author.Rules.{rules}
 use Rattle.trace.proofs.Records.{Body, body_at}
 use Rattle.load.proofs.Verdicts.{turn-stop, turn-bad, turn-fault, turn-go, clean-request}
 use Rattle.load.proofs.turn.one_turn.Goals as goal

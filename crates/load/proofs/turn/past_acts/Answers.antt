@@ -1,5 +1,4 @@
 -- `past_acts` meets its contract: past a run of acts, or nowhere.
-use borrow.Author.Rules.{rules}
 use Rattle.load.proofs.Onward.{onward-run, onward-same}
 use Rattle.load.proofs.turn.past_acts.Goals as goal
 

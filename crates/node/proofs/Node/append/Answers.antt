@@ -1,5 +1,4 @@
 -- `Node::append` meets its contract: by the room in the queue.
-use borrow.Author.Rules.{rules}
 use Rattle.node.proofs.Arrivals.{append-room, append-full}
 use Rattle.node.proofs.Node.append.Goals as goal
 

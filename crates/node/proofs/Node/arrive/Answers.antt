@@ -1,7 +1,6 @@
 -- `Node::arrive` meets its contract: each way out is a case of the machine's arrival.
 use mathlib.Core.Path.{◌≡◌, sym, ◌∙◌}
 use native.Mathlib.Omega.{arith}
-use borrow.Author.Rules.{rules}
 use Rattle.queue.specs.Inner.Queue.{tags_of}
 use Rattle.queue.specs.declared.Place.TheVariants.{At}
 use Rattle.store.specs.Inner.Memory.{view}

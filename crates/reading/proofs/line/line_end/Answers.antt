@@ -1,11 +1,7 @@
 -- `line_end` meets its contract: byte by byte, as far as none is a newline.
-use Prim.Native.Nat.{◌+◌, ◌-◌, ◌≤◌}
-use mathlib.Core.Path.{◌≡◌, refl}
+use mathlib.Core.Path.{refl}
 use native.Mathlib.Numerals.{add-one}
 use native.Mathlib.Omega.{arith}
-use lib.ListN.{length, drop}
-use borrow.Author.Rules.{rules}
-use Rattle.lines.specs.Said.{leading}
 use Rattle.reading.specs.Text.{in_line}
 use Rattle.lines.proofs.Spans.{leading_step, leading-stop, leading_end}
 use Rattle.reading.proofs.Lines.{in-line, no_line}

@@ -1,14 +1,9 @@
 -- `line_end` meets its contract: byte by byte, as far as none is a newline.
 use Prim.Native.Nat.{◌+◌, ◌-◌, ◌≤◌}
-use mathlib.Core.Path.{◌≡◌, refl}
-use native.Mathlib.Numerals.{add-one}
-use native.Mathlib.Omega.{arith}
+use mathlib.Core.Path.{◌≡◌}
 use lib.ListN.{length, drop}
-use borrow.Author.Rules.{rules}
 use Rattle.lines.specs.Said.{leading}
 use Rattle.reading.specs.Text.{in_line}
-use Rattle.lines.proofs.Spans.{leading_step, leading-stop, leading_end}
-use Rattle.reading.proofs.Lines.{in-line, no_line}
 use Rattle.reading.proofs.line.line_end.Given as goal
 
 abbrev pub invariant-loop-end : goal.invariant-loop-end

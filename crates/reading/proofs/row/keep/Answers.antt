@@ -1,6 +1,5 @@
 -- `keep` meets its contract: the item is stored where a row is left.
 use native.Mathlib.Numerals.{add-one}
-use borrow.Author.Rules.{rules}
 use Rattle.reading.proofs.Held.{full-heads, full-bytes, full-words, room-left, holds-full, holds_more}
 use Rattle.reading.proofs.row.keep.Goals as goal
 

@@ -1,7 +1,6 @@
 -- `put_operands` meets its contract: number by number.
 use lib.ListN.{get_or, length-set}
 use native.Mathlib.Omega.{arith}
-use borrow.Author.Rules.{rules}
 use Rattle.reading.proofs.row.put_operands.Goals as goal
 
 pub bounds-words-at-2 : goal.bounds-words-at-2

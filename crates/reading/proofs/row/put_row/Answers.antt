@@ -2,7 +2,6 @@
 use Prim.Native.Nat.{◌*◌}
 use native.Mathlib.Omega.{arith}
 use lib.ListN.{length-set}
-use borrow.Author.Rules.{rules}
 use Rattle.reading.proofs.Put.{row_room, put-shape, put_word, put-request, put-event, put-drain}
 use Rattle.reading.proofs.Put.{shape-low, word_low, request-low, event-low, drain-low, is-drain}
 use Rattle.reading.proofs.row.put_row.Goals as goal

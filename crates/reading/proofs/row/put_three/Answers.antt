@@ -2,7 +2,6 @@
 use Prim.Native.Nat.{◌+◌}
 use lib.ListN.{get_or, set, length-set}
 use native.Mathlib.Omega.{arith}
-use borrow.Author.Rules.{rules}
 use Rattle.reading.proofs.row.put_three.Goals as goal
 
 pub bounds-bytes-at-2 : goal.bounds-bytes-at-2

@@ -1,7 +1,6 @@
 -- `act_at` meets its contract: each way out cites what is read there of the acts left.
 use mathlib.Core.Path.{◌∙◌, ap}
 use native.Mathlib.Omega.{arith}
-use borrow.Author.Rules.{rules}
 use Rattle.trace.specs.declared.acts.Due.TheVariants.{Drain}
 use Rattle.trace.proofs.ActsLeft.{act-room, event-room, drain-room, read-end, read-event, read-drain}
 use Rattle.trace.proofs.acts.act_at.Goals as goal

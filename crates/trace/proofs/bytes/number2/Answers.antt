@@ -1,7 +1,6 @@
 -- `number2` meets its contract: the low byte and 256 of the high one.
 use native.Mathlib.Omega.{arith}
 use native.Mathlib.Numerals.{towards_suc}
-use borrow.Author.Rules.{rules}
 use Rattle.trace.specs.Bytes.{number}
 use Rattle.trace.proofs.bytes.number2.Goals as goal
 

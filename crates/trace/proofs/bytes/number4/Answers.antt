@@ -1,6 +1,5 @@
 -- `number4` meets its contract: two bytes joined with the next two.
 use native.Mathlib.Omega.{arith}
-use borrow.Author.Rules.{rules}
 use Rattle.trace.proofs.Numbers.{number-join}
 use Rattle.trace.proofs.bytes.number4.Goals as goal
 

@@ -1,6 +1,5 @@
 -- `number8` meets its contract: four bytes joined with the next four.
 use native.Mathlib.Omega.{arith}
-use borrow.Author.Rules.{rules}
 use Rattle.trace.proofs.Numbers.{number-join}
 use Rattle.trace.proofs.bytes.number8.Goals as goal
 

@@ -1,5 +1,4 @@
 -- `fixed_bits` meets its contract: the mask as a sum.
-use borrow.Author.Rules.{rules}
 use native.Mathlib.Omega.{arith}
 use lib.Pow.{pow_pos, pow_mono}
 use Rattle.trace.proofs.Events.{mask_is}

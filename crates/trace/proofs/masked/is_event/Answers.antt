@@ -1,5 +1,4 @@
 -- `is_event` meets its contract: where the mask agrees the set of steps decides, and else it is none.
-use borrow.Author.Rules.{rules}
 use borrow.Author.Tests.{eq-eqb, ne_eqb}
 use mathlib.Core.Path.{sym, ◌∙◌}
 use Rattle.trace.proofs.Events.{no-event, step-told}

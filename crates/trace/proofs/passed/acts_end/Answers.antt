@@ -1,9 +1,5 @@
 -- `acts_end` meets its contract: act by act, as far as none is refused.
-use Prim.Native.Nat.{◌-◌}
 use native.Mathlib.Omega.{arith}
-use lib.ListN.{length}
-use borrow.Author.Rules.{rules}
-use Rattle.trace.specs.Inner.Known.{Passed}
 use Rattle.trace.proofs.Runs.{passed_start, passed-header, passed_then, passed-told}
 use Rattle.trace.proofs.passed.acts_end.Goals as goal
 

@@ -1,6 +1,5 @@
 -- `four_drains` meets its contract: header by header.
 use mathlib.Core.Path.{sym, ◌∙◌}
-use borrow.Author.Rules.{rules}
 use Rattle.trace.proofs.Runs.{not-four, four-told}
 use Rattle.trace.proofs.passed.four_drains.Goals as goal
 

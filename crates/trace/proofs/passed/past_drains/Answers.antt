@@ -1,9 +1,6 @@
 -- `past_drains` meets its contract: stride by stride.
-use Prim.Native.Nat.{◌-◌}
 use native.Mathlib.Omega.{arith}
-use lib.ListN.{length}
 use borrow.Author.Tests.{not-false}
-use Rattle.trace.specs.Inner.Known.{DrainsPassed}
 use Rattle.trace.proofs.Runs.{drains-start, passed-eight}
 use mathlib.Core.Path.{ap}
 use mathlib.Core.Bool.{not}

@@ -2,7 +2,6 @@
 use mathlib.Core.Path.{refl, ◌∙◌}
 use lib.Dec.{eqb}
 use borrow.Author.Tests.{ne_eqb}
-use borrow.Author.Rules.{rules}
 use Rattle.trace.specs.Bytes.{total}
 use Rattle.trace.specs.Table.{shape_row, word_row, request_row, event_row, drain_row, rows, first_row, kind_row, body_row}
 use Rattle.trace.specs.Inner.Known.{listing}

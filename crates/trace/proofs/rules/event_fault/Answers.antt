@@ -1,5 +1,4 @@
 -- `event_fault` meets its contract: what `names_step` says decides.
-use borrow.Author.Rules.{rules}
 use Rattle.trace.proofs.rules.event_fault.Goals as goal
 
 pub returns-then-names_step : goal.returns-then-names_step

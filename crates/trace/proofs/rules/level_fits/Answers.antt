@@ -1,7 +1,6 @@
 -- `level_fits` meets its contract: a what above 4 has no level, and the others their range.
 use mathlib.Core.Path.{sym}
 use borrow.Author.Tests.{le-leb, lt-leb}
-use borrow.Author.Rules.{rules}
 use Rattle.event.proofs.Steps.{no_step}
 use Rattle.event.proofs.Levels.{level-range}
 use Rattle.trace.proofs.rules.level_fits.Goals as goal

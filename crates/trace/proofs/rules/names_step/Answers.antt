@@ -1,6 +1,5 @@
 -- `names_step` meets its contract: the position below the width, then what `level_fits` says.
 use borrow.Author.Tests.{lt-ltb, le-ltb}
-use borrow.Author.Rules.{rules}
 use Rattle.event.specs.Event.{names_step}
 use Rattle.trace.proofs.rules.names_step.Goals as goal
 

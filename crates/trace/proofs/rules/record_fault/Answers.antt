@@ -1,5 +1,4 @@
 -- `record_fault` meets its contract: out of its section, or the fault of its own kind.
-use borrow.Author.Rules.{rules}
 use Rattle.trace.specs.Refusals.{fault, or_else}
 use Rattle.trace.proofs.Table.{section-item}
 use Rattle.trace.proofs.rules.record_fault.Goals as goal

@@ -2,7 +2,6 @@
 use mathlib.Core.Path.{◌≡◌}
 use native.Mathlib.Omega.{arith}
 use borrow.Author.Tests.{lt-ltb, le-ltb}
-use borrow.Author.Rules.{rules}
 use Rattle.trace.specs.Refusals.{request_fits, or_else, unless}
 use Rattle.trace.specs.Inner.Known.{request_in}
 use Rattle.trace.proofs.Ranges.{request_fault}

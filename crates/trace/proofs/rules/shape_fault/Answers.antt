@@ -1,5 +1,4 @@
 -- `shape_fault` meets its contract: what `shape_fits` says decides.
-use borrow.Author.Rules.{rules}
 use Rattle.trace.proofs.rules.shape_fault.Goals as goal
 
 pub returns-then-shape_fits : goal.returns-then-shape_fits

@@ -1,6 +1,5 @@
 -- `word_fault` meets its contract: the mark at the address decides.
 use borrow.Author.Tests.{eq-eqb, ne_eqb}
-use borrow.Author.Rules.{rules}
 use Rattle.trace.proofs.rules.word_fault.Goals as goal
 
 pub returns-then-marks-address-eq0 : goal.returns-then-marks-address-eq0

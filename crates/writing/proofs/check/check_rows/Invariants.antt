@@ -1,10 +1,7 @@
 -- `check_rows` meets its contract: after i turns the rows from i on decide.
 use Prim.Native.Nat.{◌-◌, ◌≤◌}
-use native.Mathlib.Omega.{arith}
-use borrow.Author.Rules.{rules}
 use Rattle.writing.specs.Rows.{rows}
 use Rattle.writing.specs.Inner.Checked.{Inside}
-use Rattle.writing.proofs.Checks.{inside-start, ends-empty, ends-clean}
 use Rattle.writing.proofs.check.check_rows.Given as goal
 
 abbrev pub invariant-loop-i : goal.invariant-loop-i

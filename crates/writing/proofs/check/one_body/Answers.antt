@@ -1,7 +1,6 @@
 -- `one_body` meets its contract: the reader's finding, and what is known behind a body that is not refused.
 use mathlib.Core.Path.{◌≡◌, sym}
 use native.Mathlib.Omega.{arith}
-use borrow.Author.Rules.{rules}
 use Rattle.trace.specs.Item.{request}
 use Rattle.trace.specs.Refusals.{fault}
 use Rattle.trace.specs.Inner.Known.{request_in}

@@ -4,7 +4,6 @@ use mathlib.Core.Path.{◌≡◌, refl, ap, sym, ◌∙◌}
 use mathlib.Core.Bool.{true, not}
 use native.Mathlib.Omega.{arith}
 use borrow.Author.Tests.{eq-eqb, ne_eqb}
-use borrow.Author.Rules.{rules}
 use Rattle.trace.specs.Table.{is_row, kind_row}
 use Rattle.writing.specs.Rows.{Rows, rows, kind_at}
 use Rattle.writing.specs.declared.record.Kind.{Kind}
@@ -52,10 +51,10 @@ returns c =
     let section-is : c.kind_of-told.result.section ≡ (row_at (lent c.before.before.before.before.before.before.before.before.before.before.before.before.before.before) c.args.i).section = ap (λ (k : Kind). k.section) c.kind_of-told.ensures ∙ ap (λ (k : ℕ). (kind_row k).section) c.kind_at-kind.ensures in
     let row-there : is_row (row_at (lent c.before.before.before.before.before.before.before.before.before.before.before.before.before.before) c.args.i) ≡ true = ap not (ne_eqb _ 0 (λ e. c.if-told-eq0.false (section-is ∙ e))) in
     let typed : Typed (lent c.before.before.before.before.before.before.before.before.before.before.before.before.before.before) = record {
-  heads-low = λ j. (c.shared_slice_known-1.given j).fits;
-  bytes_low = λ j. (c.shared_slice_known-2-1.given j).fits;
-  words-low = λ j. (c.shared_slice_known-3-1.given j).fits;
-} in
+      heads-low = λ j. (c.shared_slice_known-1.given j).fits;
+      bytes_low = λ j. (c.shared_slice_known-2-1.given j).fits;
+      words-low = λ j. (c.shared_slice_known-3-1.given j).fits;
+    } in
     let body : Stands (body_at (lent c.before.before.before.before.before.before.before.before.before.before.before.before.before.before) c.args.i) c.put_body-end.new.out c.put_body-end.result = body-stands (lent c.before.before.before.before.before.before.before.before.before.before.before.before.before.before) c.args.i c.put_body-end.ensures refl in
     let is = row-there in
     let found = rw (body.text-is, c.kind_at-kind.ensures, item-at _ _ is typed) at c.one_body.ensures in

@@ -1,10 +1,9 @@
 -- `too_long` meets its contract: after i turns the size of i records is known, and it is not too long.
-use Prim.Native.Nat.{ℕ, ◌+◌, ◌*◌, ◌-◌, ◌≤◌}
+use Prim.Native.Nat.{ℕ, ◌+◌, ◌*◌}
 use mathlib.Core.Path.{◌≡◌, refl, ap, sym, ◌∙◌}
 use native.Mathlib.Omega.{arith}
 use lib.ListN.{get_or}
 use borrow.Author.Tests.{lt-ltb, le-ltb}
-use borrow.Author.Rules.{rules}
 use Rattle.trace.specs.Table.{body_size, kind_row}
 use Rattle.writing.specs.declared.record.Kind.{Kind}
 use Rattle.writing.specs.Inner.Sizes.{size_to}

@@ -1,14 +1,7 @@
 -- `too_long` meets its contract: after i turns the size of i records is known, and it is not too long.
-use Prim.Native.Nat.{ℕ, ◌+◌, ◌*◌, ◌-◌, ◌≤◌}
-use mathlib.Core.Path.{◌≡◌, refl, ap, sym, ◌∙◌}
-use native.Mathlib.Omega.{arith}
-use lib.ListN.{get_or}
-use borrow.Author.Tests.{lt-ltb, le-ltb}
-use borrow.Author.Rules.{rules}
-use Rattle.trace.specs.Table.{body_size, kind_row}
-use Rattle.writing.specs.declared.record.Kind.{Kind}
+use Prim.Native.Nat.{◌-◌, ◌≤◌}
+use mathlib.Core.Path.{◌≡◌}
 use Rattle.writing.specs.Inner.Sizes.{size_to}
-use Rattle.writing.proofs.Sizes.{size-more, size-grows, body-few}
 use Rattle.writing.proofs.check.too_long.Given as goal
 
 abbrev pub invariant-loop-i : goal.invariant-loop-i

@@ -1,9 +1,6 @@
 -- `put_rows` meets its contract: after i turns the records of i rows are written.
-use Prim.Native.Nat.{◌-◌}
 use native.Mathlib.Omega.{arith}
-use borrow.Author.Rules.{rules}
-use Rattle.writing.specs.Rows.{rows}
-use Rattle.writing.proofs.Puts.{Put, row_in, put-start, put-room, put-more, put-done}
+use Rattle.writing.proofs.Puts.{row_in, put-start, put-room, put-more, put-done}
 use Rattle.writing.proofs.put.put_rows.Goals as goal
 
 pub loop-i-init : goal.loop-i-init

@@ -1,9 +1,7 @@
 -- `put_rows` meets its contract: after i turns the records of i rows are written.
 use Prim.Native.Nat.{◌-◌}
-use native.Mathlib.Omega.{arith}
-use borrow.Author.Rules.{rules}
 use Rattle.writing.specs.Rows.{rows}
-use Rattle.writing.proofs.Puts.{Put, row_in, put-start, put-room, put-more, put-done}
+use Rattle.writing.proofs.Puts.{Put}
 use Rattle.writing.proofs.put.put_rows.Given as goal
 
 abbrev pub invariant-loop-i : goal.invariant-loop-i

@@ -3,7 +3,6 @@ use Prim.Native.Nat.{ℕ, ◌+◌, ◌*◌, ◌≤◌}
 use mathlib.Core.Path.{◌≡◌, ap, sym, ◌∙◌}
 use native.Mathlib.Omega.{arith}
 use lib.ListN.{length, get_or, take, drop, length-append}
-use borrow.Author.Rules.{rules}
 use Rattle.digits.proofs.Buffer.{wrote_nothing, wrote_then}
 use Rattle.trace.specs.Table.{body_size, kind_row}
 use Rattle.trace.specs.Write.{bytes}
@@ -83,10 +82,10 @@ pub returns-in-1 : goal.returns-in-1
 returns-in-1 c =
     let lent : Rows = let a = c.args in rows a.heads.now a.bytes.now a.words.now in
     let typed : Typed lent = record {
-  heads-low = λ j. omega (arith, c.shared_slice_known-1.given j);
-  bytes_low = λ j. omega (arith, c.shared_slice_known-2-1.given j);
-  words-low = λ j. omega (arith, c.shared_slice_known-3-1.given j);
-} in
+      heads-low = λ j. omega (arith, c.shared_slice_known-1.given j);
+      bytes_low = λ j. omega (arith, c.shared_slice_known-2-1.given j);
+      words-low = λ j. omega (arith, c.shared_slice_known-3-1.given j);
+    } in
     let place : ℕ = c.args.i in
     let inside : RowIn lent place = c.requires.row_in in
     let kind-is : (k : ℕ) → c.kind_at.result ≡ k → kind_at lent place ≡ k = λ k e. sym c.kind_at.ensures ∙ e in rw (body-shape typed inside (kind-is 1 c.in-1.is)) c.put_ones.ensures
@@ -95,10 +94,10 @@ pub returns-in-2 : goal.returns-in-2
 returns-in-2 c =
     let lent : Rows = let a = c.args in rows a.heads.now a.bytes.now a.words.now in
     let typed : Typed lent = record {
-  heads-low = λ j. omega (arith, c.shared_slice_known-1.given j);
-  bytes_low = λ j. omega (arith, c.shared_slice_known-2-1.given j);
-  words-low = λ j. omega (arith, c.shared_slice_known-3-1.given j);
-} in
+      heads-low = λ j. omega (arith, c.shared_slice_known-1.given j);
+      bytes_low = λ j. omega (arith, c.shared_slice_known-2-1.given j);
+      words-low = λ j. omega (arith, c.shared_slice_known-3-1.given j);
+    } in
     let place : ℕ = c.args.i in
     let inside : RowIn lent place = c.requires.row_in in
     let kind-is : (k : ℕ) → c.kind_at.result ≡ k → kind_at lent place ≡ k = λ k e. sym c.kind_at.ensures ∙ e in rw (body-word typed inside (kind-is 2 c.in-2.is)) c.put_ones_and_eight.ensures
@@ -107,10 +106,10 @@ pub returns-in-3 : goal.returns-in-3
 returns-in-3 c =
     let lent : Rows = let a = c.args in rows a.heads.now a.bytes.now a.words.now in
     let typed : Typed lent = record {
-  heads-low = λ j. omega (arith, c.shared_slice_known-1.given j);
-  bytes_low = λ j. omega (arith, c.shared_slice_known-2-1.given j);
-  words-low = λ j. omega (arith, c.shared_slice_known-3-1.given j);
-} in
+      heads-low = λ j. omega (arith, c.shared_slice_known-1.given j);
+      bytes_low = λ j. omega (arith, c.shared_slice_known-2-1.given j);
+      words-low = λ j. omega (arith, c.shared_slice_known-3-1.given j);
+    } in
     let place : ℕ = c.args.i in
     let inside : RowIn lent place = c.requires.row_in in
     let kind-is : (k : ℕ) → c.kind_at.result ≡ k → kind_at lent place ≡ k = λ k e. sym c.kind_at.ensures ∙ e in
@@ -121,10 +120,10 @@ pub returns-in-4 : goal.returns-in-4
 returns-in-4 c =
     let lent : Rows = let a = c.args in rows a.heads.now a.bytes.now a.words.now in
     let typed : Typed lent = record {
-  heads-low = λ j. omega (arith, c.shared_slice_known-1.given j);
-  bytes_low = λ j. omega (arith, c.shared_slice_known-2-1.given j);
-  words-low = λ j. omega (arith, c.shared_slice_known-3-1.given j);
-} in
+      heads-low = λ j. omega (arith, c.shared_slice_known-1.given j);
+      bytes_low = λ j. omega (arith, c.shared_slice_known-2-1.given j);
+      words-low = λ j. omega (arith, c.shared_slice_known-3-1.given j);
+    } in
     let place : ℕ = c.args.i in
     let inside : RowIn lent place = c.requires.row_in in
     let kind-is : (k : ℕ) → c.kind_at.result ≡ k → kind_at lent place ≡ k = λ k e. sym c.kind_at.ensures ∙ e in rw (body-event typed inside (kind-is 4 c.in-4.is)) c.put_ones-in-4.ensures
@@ -133,10 +132,10 @@ pub returns-in-5 : goal.returns-in-5
 returns-in-5 c =
     let lent : Rows = let a = c.args in rows a.heads.now a.bytes.now a.words.now in
     let typed : Typed lent = record {
-  heads-low = λ j. omega (arith, c.shared_slice_known-1.given j);
-  bytes_low = λ j. omega (arith, c.shared_slice_known-2-1.given j);
-  words-low = λ j. omega (arith, c.shared_slice_known-3-1.given j);
-} in
+      heads-low = λ j. omega (arith, c.shared_slice_known-1.given j);
+      bytes_low = λ j. omega (arith, c.shared_slice_known-2-1.given j);
+      words-low = λ j. omega (arith, c.shared_slice_known-3-1.given j);
+    } in
     let place : ℕ = c.args.i in
     let inside : RowIn lent place = c.requires.row_in in
     let kind-is : (k : ℕ) → c.kind_at.result ≡ k → kind_at lent place ≡ k = λ k e. sym c.kind_at.ensures ∙ e in

@@ -1,8 +1,6 @@
 -- `put_number` meets its contract: after i turns i bytes are written, and the rest of the number is left.
 use Prim.Native.Nat.{◌-◌}
-use native.Mathlib.Omega.{arith}
-use borrow.Author.Rules.{rules}
-use Rattle.writing.proofs.Bytes.{Spelling, spelling-start, spelling-more, spelling-done}
+use Rattle.writing.proofs.Bytes.{Spelling}
 use Rattle.writing.proofs.record.put_number.Given as goal
 
 abbrev pub invariant-loop : goal.invariant-loop

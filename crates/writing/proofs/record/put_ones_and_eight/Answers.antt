@@ -1,6 +1,5 @@
 -- `put_ones_and_eight` meets its contract: the ones, then the eight bytes.
 use Prim.Native.Nat.{◌*◌}
-use borrow.Author.Rules.{rules}
 use Rattle.digits.proofs.Buffer.{wrote_then}
 use Rattle.writing.proofs.Bytes.{room-behind, length_part}
 use Rattle.writing.proofs.record.put_ones_and_eight.Goals as goal

@@ -3,7 +3,6 @@ use Prim.Native.Nat.{ℕ}
 use mathlib.Core.Path.{◌≡◌, ap, ◌∙◌}
 use native.Mathlib.Omega.{arith}
 use lib.ListN.{length-append}
-use borrow.Author.Rules.{rules}
 use Rattle.digits.proofs.Buffer.{wrote_then}
 use Rattle.trace.specs.Table.{body_size, kind_row}
 use Rattle.trace.specs.Write.{bytes}
@@ -23,9 +22,12 @@ put_body-requires c =
     let lent : Rows = let a = c.args in rows a.heads.now a.bytes.now a.words.now in
     let place : ℕ = c.args.i in
     let header = wrote_then c.put_number-next.ensures c.put_number-body.ensures in
-    let told = length-bytes 2 c.kind_of-told.result.size in record { row_in = c.requires.row_in; i_in_bounds = room-behind header 4 (body_size (row_at lent place))
+    let told = length-bytes 2 c.kind_of-told.result.size in record {
+      row_in = c.requires.row_in;
+      i_in_bounds = room-behind header 4 (body_size (row_at lent place))
           (length-append (bytes 2 _) (bytes 2 _) ∙ omega (arith, told, length-bytes 2 c.kind_at-kind.result))
-          c.requires.i_in_bounds }
+          c.requires.i_in_bounds;
+    }
 
 pub returns : goal.returns
 returns c =

@@ -1,6 +1,5 @@
 -- `past` meets its contract: what stands before the first act grows with the first three sections alone.
 use borrow.Author.Tests.{lt-ltb, le-ltb}
-use borrow.Author.Rules.{rules}
 use Rattle.trace.proofs.progress.Progress.past.Goals as goal
 
 pub returns-then-section-ge4 : goal.returns-then-section-ge4

@@ -1,2 +1,0 @@
--- The law of what is told of an input.
-pub mod Counted
