@@ -1,5 +1,6 @@
 // Standard input, read to its end into a lent buffer.
 #![tactic(auto)]
+
 ghost use Rattle.std.specs.Prelude.{◌≡◌, true};
 ghost use Rattle.io.specs.Counts.{IsPrefixLen};
 ghost use Rattle.input.specs.Inner.Told.{NoneUnended};

@@ -20,7 +20,9 @@ fn main(rt: HostRuntime) {
     let mut trace = [0u8; trace::LONGEST + 1];
     let input = read_all(&mut rt.stdin(), &mut trace);
     if !input.ended {
-        let _told = rt.stderr().write_all(b"runner: standard input cannot be read\n");
+        let _told = rt
+            .stderr()
+            .write_all(b"runner: standard input cannot be read\n");
         return;
     }
     let n = input.len;

@@ -1,8 +1,11 @@
 // Outside vectors: each trace of standard input is run, and its report compared with the one beside it, byte for byte.
 // tools/pack-vectors says how they are packed.
+#![tactic(auto)]
+
 ghost use Rattle.std.specs.Prelude.{◌<◌, ◌≤◌};
 
-use libc::{STDIN_FILENO, STDOUT_FILENO};
+use std::io;
+use std::io::{Print, Read};
 
 // What came of the next vector: the input is over or out of form; the reports are the same; or they differ.
 #[derive(Clone, Copy)]
@@ -35,18 +38,19 @@ fn wide(b: u8) -> usize
 }
 
 // Reads n bytes to the start of a buffer; false where they are not there or do not fit.
-fn filled(buffer: &mut [u8], n: usize) -> bool {
+fn filled<R: Read>(reader: &mut R, buffer: &mut [u8], n: usize) -> bool {
     if buffer.len() < n {
         return false;
     }
-    io::read_full(STDIN_FILENO, &mut buffer[..n]) == n
+    reader.read_exact(&mut buffer[..n]).is_ok()
 }
 
 // Writes the first n bytes of a buffer, as far as it has them.
-fn show(buffer: &[u8], n: usize) {
+fn show(out: &impl Print, buffer: &[u8], n: usize) -> io::Result<()> {
     if n <= buffer.len() {
-        io::write_all(STDOUT_FILENO, &buffer[..n]);
+        out.write_all(&buffer[..n])?;
     }
+    Ok(())
 }
 
 // Whether the report of the first n bytes of a trace is the first m bytes of what is expected.
@@ -78,36 +82,39 @@ fn read_lengths(head: &[u8]) -> Lengths {
     }
 }
 
-fn tell(name: &[u8], n: usize) {
-    io::write_all(STDOUT_FILENO, b"differs: ");
-    show(name, n);
-    io::write_all(STDOUT_FILENO, b"\n");
+fn tell(out: &impl Print, name: &[u8], n: usize) -> io::Result<()> {
+    out.write_all(b"differs: ")?;
+    show(out, name, n)?;
+    out.write_all(b"\n")
 }
 
-fn compare_next(
+fn compare_next<R: Read>(
+    reader: &mut R,
+    out: &impl Print,
     head: &mut [u8],
     name: &mut [u8],
     trace: &mut [u8],
     expected: &mut [u8],
     text: &mut [u8],
 ) -> Compared {
-    if !filled(head, 10) {
+    if !filled(reader, head, 10) {
         return Compared::Over;
     }
     let long = read_lengths(head);
-    if !filled(name, long.name) {
+    if !filled(reader, name, long.name) {
         return Compared::Broken;
     }
-    if !filled(trace, long.trace) {
+    if !filled(reader, trace, long.trace) {
         return Compared::Broken;
     }
-    if !filled(expected, long.report) {
+    if !filled(reader, expected, long.report) {
         return Compared::Broken;
     }
     if reported(trace, long.trace, expected, long.report, text) {
         return Compared::Same;
     }
-    tell(name, long.name);
+    // where standard output cannot be written, there is nobody to tell
+    let _told = tell(out, name, long.name);
     Compared::Differs
 }
 
@@ -119,7 +126,9 @@ struct Tally {
 }
 
 // All vectors, at most 100,000.
-fn compare_all(
+fn compare_all<R: Read>(
+    reader: &mut R,
+    out: &impl Print,
     head: &mut [u8],
     name: &mut [u8],
     trace: &mut [u8],
@@ -131,19 +140,19 @@ fn compare_all(
     let mut ran: u64 = 0;
     let mut differ: u64 = 0;
     while ran < 100000 {
-        let compared = compare_next(head, name, trace, expected, text);
+        let compared = compare_next(reader, out, head, name, trace, expected, text);
         match compared {
             Compared::Over => {
                 return Tally {
-                    ran: ran,
-                    differ: differ,
+                    ran,
+                    differ,
                     broken: false,
                 };
             }
             Compared::Broken => {
                 return Tally {
-                    ran: ran,
-                    differ: differ,
+                    ran,
+                    differ,
                     broken: true,
                 };
             }
@@ -157,24 +166,30 @@ fn compare_all(
         }
     }
     Tally {
-        ran: ran,
-        differ: differ,
+        ran,
+        differ,
         broken: false,
     }
 }
 
-fn main() {
+fn main(rt: HostRuntime) -> io::Result<()> {
     let mut head = [0u8; 10];
     let mut name = [0u8; 256];
     let mut trace = [0u8; 65600];
     let mut expected = [0u8; report::ROOM];
     let mut text = [0u8; report::ROOM];
-    let tally = compare_all(&mut head, &mut name, &mut trace, &mut expected, &mut text);
+    let out = rt.stdout();
+    let tally = compare_all(
+        &mut rt.stdin(),
+        &out,
+        &mut head,
+        &mut name,
+        &mut trace,
+        &mut expected,
+        &mut text,
+    );
     if tally.broken {
-        io::write_all(STDOUT_FILENO, b"the vectors are out of form\n");
+        out.write_all(b"the vectors are out of form\n")?;
     }
-    io::print_decimal(STDOUT_FILENO, tally.ran);
-    io::write_all(STDOUT_FILENO, b" vectors ran, ");
-    io::print_decimal(STDOUT_FILENO, tally.differ);
-    io::write_all(STDOUT_FILENO, b" differ\n");
+    println!(rt; "{} vectors ran, {} differ", tally.ran, tally.differ)
 }

@@ -1,7 +1,7 @@
 // What the writer makes of a text, in two lent buffers: the trace, or the line that is told instead.
 ghost use Rattle.std.specs.Prelude.{◌≡◌, ◌≤◌, length};
 ghost use Rattle.writing.specs.Rows.{rows, entries};
-ghost use Rattle.writing.specs.Writing.{result};
+ghost use Rattle.writing.specs.Writing.{result as list_result};
 ghost use Rattle.writer.specs.Told.{told_room, line_refused};
 ghost use Rattle.writer.specs.Made.{list_made, text_made, MadeIn};
 
@@ -21,7 +21,7 @@ pub struct Lengths {
 
 // The number of the line that a refusal is about; 0 where it is about the list: 10, and an empty list.
 fn line_refused(text: &[u8], refusal: u64, row: u64) -> usize
-    ensures* { λ r. ⌜ r ≡ line_refused text.now refusal row ⌝ }
+    ensures { result ≡ line_refused text.now refusal row }
 {
     if refusal == 10 {
         return 0;
@@ -39,8 +39,8 @@ fn rows_made(
     told: &mut [u8],
 ) -> Lengths
     requires { (length out.old ≡ 65536) × (told_room ≤ length told.old) }
-    ensures* { λ r. ⌜ MadeIn (list_made text.now (result (entries (rows heads.now bytes.now words.now)) 65536)) r
-        out.new told.new ⌝ }
+    ensures { MadeIn (list_made text.now (list_result (entries (rows heads.now bytes.now words.now)) 65536)) result
+        out.new told.new }
 {
     let written = writing::write(heads, bytes, words, out);
     if written.refusal != 0 {
@@ -61,7 +61,7 @@ fn rows_made(
 // What is made of a text: the first line that is no item is told; else its items are written or refused.
 pub fn text_made(text: &[u8], out: &mut [u8], told: &mut [u8]) -> Lengths
     requires { (length out.old ≡ 65536) × (told_room ≤ length told.old) }
-    ensures* { λ r. ⌜ MadeIn (text_made text.now) r out.new told.new ⌝ }
+    ensures { MadeIn (text_made text.now) result out.new told.new }
 {
     let mut heads = [0u16; HEADS * ROWS];
     let mut bytes = [0u8; BYTES * ROWS];
