@@ -1,5 +1,5 @@
-// The C interface: the public entry, the report, the writer and the listing under C names, each slice a pointer and a length. include/whetbracken.h declares
-// them for C.
+// The C interface: the public entry, the report, the writer and the listing under C names. whetbracken_c exports them, each slice a pointer
+// and a length; include/whetbracken.h declares them for C.
 #![tactic(auto)]
 
 ghost use Rattle.std.specs.Prelude.{◌≡◌};
@@ -25,8 +25,7 @@ pub struct Numbers {
 }
 
 // What a trace is told, with what its run gives in the lent reply values, reply marks, order places and words.
-#[unsafe(no_mangle)]
-pub extern "C" fn whetbracken_model(
+pub fn whetbracken_model(
     trace: &[u8],
     replies: &mut [u64],
     marks: &mut [u8],
@@ -41,8 +40,7 @@ pub extern "C" fn whetbracken_model(
 }
 
 // The report of a trace at the start of a lent buffer, and its length: 0 where the buffer has no room for every report.
-#[unsafe(no_mangle)]
-pub extern "C" fn whetbracken_report(trace: &[u8], out: &mut [u8]) -> usize
+pub fn whetbracken_report(trace: &[u8], out: &mut [u8]) -> usize
     ensures { Wrote trace.now out.old result out.new }
 {
     let written = report::report(trace, out);
@@ -50,8 +48,7 @@ pub extern "C" fn whetbracken_report(trace: &[u8], out: &mut [u8]) -> usize
 }
 
 // The records of a list of items at the start of a lent output; a row of the list stands in three slices.
-#[unsafe(no_mangle)]
-pub extern "C" fn whetbracken_write(
+pub fn whetbracken_write(
     heads: &[u16],
     bytes: &[u8],
     words: &[u64],
@@ -63,8 +60,7 @@ pub extern "C" fn whetbracken_write(
 }
 
 // The items of a trace as lines at the start of a lent buffer, and their length: 0 where the buffer has no room for every listing.
-#[unsafe(no_mangle)]
-pub extern "C" fn whetbracken_items(trace: &[u8], out: &mut [u8]) -> usize
+pub fn whetbracken_items(trace: &[u8], out: &mut [u8]) -> usize
     ensures { ItemsPrinted trace.now out.old result out.new }
 {
     let printed = listing::listing(trace, out);
