@@ -1,5 +1,5 @@
-// The reader: the trace and the offset of its next record. The prover's walk covers no struct that holds a slice, so the functions
-// over it are thin: each takes it apart, or makes it, and leaves the work to a function of the slice and the number.
+// The reader: the trace and the offset of its next record. Each function over it takes it apart, or makes it, and leaves the work to a
+// function of the slice and the number.
 ghost use Rattle.std.specs.Prelude.{◌≡◌, ◌≤◌, length};
 ghost use Rattle.trace.specs.Inner.Told.{HeadRead};
 

@@ -48,12 +48,7 @@ pub fn whetbracken_report(trace: &[u8], out: &mut [u8]) -> usize
 }
 
 // The records of a list of items at the start of a lent output; a row of the list stands in three slices.
-pub fn whetbracken_write(
-    heads: &[u16],
-    bytes: &[u8],
-    words: &[u64],
-    out: &mut [u8],
-) -> Written
+pub fn whetbracken_write(heads: &[u16], bytes: &[u8], words: &[u64], out: &mut [u8]) -> Written
     ensures { Promised (rows heads.now bytes.now words.now) out.old result out.new }
 {
     writing::write(heads, bytes, words, out)

@@ -1,5 +1,6 @@
 // The C names of `whetbracken`, in a static library: each slice is a pointer and a length. include/whetbracken.h declares them for C.
 #![tactic(auto)]
+
 ghost use Rattle.model.specs.Result.{lent};
 ghost use Rattle.writing.specs.Rows.{rows};
 ghost use Rattle.writing.specs.Promise.{Promised};

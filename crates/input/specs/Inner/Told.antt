@@ -1,4 +1,4 @@
--- What may be told of standard input. Which bytes came, and how many, no contract of the C library says.
+-- What may be told of standard input. Which bytes came, and how many, no contract of the system's reads says.
 use Rattle.std.specs.Prelude.{◌≡◌, false}
 use Rattle.input.specs.declared.Input.{Input}
 
