@@ -1,5 +1,5 @@
 -- Laws of numerals: their length, their digits, no leading zero, and that they spell their number.
-use Prim.Native.Nat.{ℕ, zero, suc, ◌+◌, ◌-◌, ◌*◌, ◌/◌, ◌%◌, ◌^◌, ◌≤◌, ◌<◌}
+use Prim.Native.Nat.{ℕ, zero, suc, ◌+◌, ◌/◌, ◌%◌, ◌^◌, ◌≤◌, ◌<◌}
 use mathlib.Core.Path.{◌≡◌, refl, sym, ◌∙◌, ap}
 use mathlib.Core.Logic.{◌≢◌}
 use mathlib.Core.List.{List, [], ◌∷◌, ◌++◌}
@@ -14,10 +14,13 @@ use Rattle.lists.proofs.Every.{all_append}
 use Rattle.digits.specs.Numeral.{digit, numeral_in, numeral, decimal, value_from, value_in}
 use Rattle.digits.specs.Inner.Value.{binary}
 
+append-from : (base : ℕ) (ds : List ℕ) (n : ℕ) (es : List ℕ) → value_from base n (ds ++ es) ≡ value_from base (value_from base n ds) es
+unfolding value_from
+append-from base [] n es = refl
+append-from base (d ∷ ds) n es = append-from base ds _ es
+
 pub value_from-append : (base n : ℕ) (ds es : List ℕ) → value_from base n (ds ++ es) ≡ value_from base (value_from base n ds) es
-unfolding value_from digit
-value_from-append base n [] es = refl
-value_from-append base n (d ∷ ds) es = value_from-append base (n * base + (d - digit 0)) ds es
+value_from-append base n ds es = append-from base ds n es
 
 module _ (base : ℕ) (two : 2 ≤ base) where
   in_one : (most n : ℕ) → n < base → numeral_in base (suc most) n ≡ digit n ∷ []
