@@ -4,10 +4,10 @@ use Rattle.load.proofs.Verdicts.{inside-start, loaded-long, loaded-fail, loaded-
 use Rattle.load.proofs.load.Goals as goal
 
 pub returns-then-s-gt-LONGEST : goal.returns-then-s-gt-LONGEST
-returns-then-s-gt-LONGEST c = rw (c.requires.0, c.requires.1, c.requires.2) (loaded-long _ c.if-s-gt-LONGEST.true)
+returns-then-s-gt-LONGEST c = rw (c.requires.0, c.requires.1, c.requires.2) (loaded-long c.args.s.now (omega arith))
 
 pub loop-f-init : goal.loop-f-init
-loop-f-init c = rw (c.start-p.ensures, c.requires.0, c.requires.1, c.requires.2) (inside-start _ c.if-s-gt-LONGEST.false)
+loop-f-init c = rw (c.start-p.ensures, c.requires.0, c.requires.1, c.requires.2) (inside-start c.args.s.now (omega arith))
 
 pub one_turn-t-requires : goal.one_turn-t-requires
 one_turn-t-requires c = c.loop-f.invariant
