@@ -9,14 +9,17 @@ use native.Mathlib.Omega.{arith}
 use lib.ListN.{length, get_or, take, drop, take-append-drop, drop_of_length-le}
 use lib.Seq.{take-suc, split_at}
 use lib.Dec.{eqb}
-use borrow.Author.Tests.{eqb-true, eq-eqb, lt-ltb, le-ltb}
+use Rattle.std.specs.Prelude.{Ok, Err}
+use Rattle.std.specs.List.{list_all}
+use Rattle.std.specs.Char.{is_ascii_digit}
+use borrow.Author.Tests.{eqb-true, eq-eqb, lt-ltb, le-ltb, le-leb}
 use Rattle.lists.specs.Search.{All, nil, cons}
-use Rattle.lists.proofs.Tests.{by_cases, eqb-cases, both_true, clash, test-fails}
+use Rattle.lists.proofs.Tests.{by_cases, eqb-cases, both_true, clash, test-cases, test-clash, test-fails}
 use Rattle.lists.proofs.Lists.{first-is}
 use Rattle.lists.proofs.Every.{all_head, all_right, all_map}
 use Rattle.digits.specs.Numeral.{digit, same, decimal, value_from, value_in, is_decimal}
 use Rattle.digits.specs.Inner.Value.{IsDigit, spelled}
-use Rattle.digits.specs.declared.read.Spelled.TheVariants.{NoNumber, TooLarge, Number}
+use Rattle.digits.specs.declared.read.NumberError.TheVariants.{NoNumber, TooLarge}
 use Rattle.digits.proofs.Numerals.{numeral-one, numeral-more, numeral-some, numeral-digits, numeral-first, numeral-value, value_from-append}
 
 -- ---- texts that are the same
@@ -113,6 +116,22 @@ digits_decimal (d ∷ ds) n z (cons p t) =
     let back : 48 + (0 * 10 + (d - 48)) ≡ d = omega arith in
     rw (all-behind (0 * 10 + (d - 48)) ds (omega arith) t, numeral-one 10 (omega arith) (0 * 10 + (d - 48)) v, back) (same_self (d ∷ ds))
 
+-- the same, told by a test of each byte
+digit-told : (d : ℕ) → is_ascii_digit d ≡ true → IsDigit d
+digit-told d e = grind arith
+
+all_told : (f : List ℕ) → All IsDigit f → list_all is_ascii_digit f ≡ true
+all_told [] nil = refl
+all_told (d ∷ ds) (cons p t) = rw (le-leb 48 d p.0, le-leb d 57 p.1, all_told ds t)
+
+digits-told : (f : List ℕ) → list_all is_ascii_digit f ≡ true → All IsDigit f
+digits-told [] e = nil
+digits-told (d ∷ ds) e = let b = both_true _ _ e in cons (digit-told d b.0) (digits-told ds b.1)
+
+pub test-told : (f : List ℕ) → length f ≢ 0 → get_or f 0 0 ≢ 48 → list_all is_ascii_digit f ≡ is_decimal f
+test-told f n z = test-cases (λ b. b ≡ is_decimal f) (list_all is_ascii_digit f) (λ e. sym (digits_decimal f n z (digits-told f e)))
+    (λ e. sym (test-fails _ (λ d. test-clash (all_told f (decimal-digits f d)) e)))
+
 -- ---- what they spell
 grows : (n : ℕ) (ds : List ℕ) → n ≤ value_from 10 n ds
 unfolding value_from digit
@@ -129,7 +148,7 @@ unfolding value_from digit
 value-more f i h = rw (take-suc f i 0 h, value_from-append 10 0 (take i f))
 
 -- a text whose first digits spell too much spells too much
-pub too_large : (f : List ℕ) (i : ℕ) → is_decimal f ≡ true → i < length f → 2 ^ 64 ≤ value_in 10 (take i f) * 10 + (get_or f i 0 - 48) → TooLarge ≡ spelled f
+pub too_large : (f : List ℕ) (i : ℕ) → is_decimal f ≡ true → i < length f → 2 ^ 64 ≤ value_in 10 (take i f) * 10 + (get_or f i 0 - 48) → Err TooLarge ≡ spelled f
 unfolding spelled
 too_large f i e h g =
     let all : value_in 10 f ≡ value_from 10 (value_in 10 (take (suc i) f)) (drop (suc i) f) =
@@ -137,10 +156,10 @@ too_large f i e h g =
     let large : 2 ^ 64 ≤ value_in 10 f = omega (arith, all, value-more f i h, grows (value_in 10 (take (suc i) f)) (drop (suc i) f)) in
     rw (e, le-ltb _ _ large)
 
-pub fits : (f : List ℕ) → is_decimal f ≡ true → value_in 10 f < 2 ^ 64 → Number (value_in 10 f) ≡ spelled f
+pub fits : (f : List ℕ) → is_decimal f ≡ true → value_in 10 f < 2 ^ 64 → Ok (value_in 10 f) ≡ spelled f
 unfolding spelled
 fits f e l = rw (e, lt-ltb _ _ l)
 
-pub no_number : (f : List ℕ) → is_decimal f ≡ false → NoNumber ≡ spelled f
+pub no_number : (f : List ℕ) → is_decimal f ≡ false → Err NoNumber ≡ spelled f
 unfolding spelled
 no_number f e = rw e

@@ -1,59 +1,89 @@
 // Lines, names and numbers, as bytes in a lent buffer: document 01, "A session given whole". Numbers are written in decimal.
 #![tactic(auto)]
 
-ghost use Rattle.std.specs.Prelude.{◌≡◌, [], ◌∷◌, ◌++◌, ◌+◌, ◌≤◌, ◌<◌, length};
+ghost use Rattle.std.specs.Prelude.{◌≡◌, [], ◌∷◌, ◌++◌, ◌+◌, ◌≤◌, ◌<◌, length, map};
 ghost use Rattle.digits.specs.Numeral.{digit, decimal};
 ghost use Rattle.digits.specs.Line.{line};
-ghost use Rattle.digits.specs.Inner.Buffer.{Wrote};
+ghost use Rattle.digits.specs.Inner.Buffer.{HasRoom, Writes};
 
 pub mod read;
 
-// A line of a name and a number.
-pub fn put_line(out: &mut [u8], at: usize, name: &[u8], n: u64) -> usize
-    requires { at + length (line (name.now ∷ decimal n ∷ [])) ≤ length out.old }
-    ensures { Wrote out.old at (line (name.now ∷ decimal n ∷ [])) out.new result }
-{
-    let next = put_field(out, at, name, b' ');
-    put_number(out, next, n, b'\n')
+// A lent buffer, and the offset that it is written up to: what is put stands there, and the offset moves behind it.
+#[derive(Drop)]
+pub struct LentBuffer<'a> {
+    bytes: &'a mut [u8],
+    pub at: usize,
 }
 
-// A line of a name and two numbers.
-pub fn put_pair(out: &mut [u8], at: usize, name: &[u8], first: u64, last: u64) -> usize
-    requires { at + length (line (name.now ∷ decimal first ∷ decimal last ∷ [])) ≤ length out.old }
-    ensures { Wrote out.old at (line (name.now ∷ decimal first ∷ decimal last ∷ [])) out.new result }
-{
-    let next = put_field(out, at, name, b' ');
-    let end = put_number(out, next, first, b' ');
-    put_number(out, end, last, b'\n')
-}
+impl<'a> LentBuffer<'a> {
+    // Nothing is written yet.
+    pub fn new(bytes: &'a mut [u8]) -> LentBuffer<'a>
+        ensures lent { result.bytes.ghost_name ≡ bytes.entry.ghost_name }
+        ensures bytes { result.bytes.now ≡ bytes.old }
+        ensures at { result.at ≡ 0 }
+    {
+        LentBuffer { bytes, at: 0 }
+    }
 
-// A field as it is given, and the byte behind it: a space, or the line's newline.
-pub fn put_field(out: &mut [u8], at: usize, field: &[u8], behind: u8) -> usize
-    requires { at + length (field.now ++ (behind ∷ [])) ≤ length out.old }
-    ensures { Wrote out.old at (field.now ++ (behind ∷ [])) out.new result }
-{
-    let next = put_bytes(out, at, field);
-    put_byte(out, next, behind)
-}
+    pub fn byte(&mut self, byte: u8)
+        requires { HasRoom self.old 1 }
+        ensures { Writes self.old (byte ∷ []) self.new }
+    {
+        self.bytes[self.at] = byte;
+        self.at += 1;
+    }
 
-// A field that is a number, and the byte behind it.
-pub fn put_number(out: &mut [u8], at: usize, n: u64, behind: u8) -> usize
-    requires { at + length (decimal n ++ (behind ∷ [])) ≤ length out.old }
-    ensures { Wrote out.old at (decimal n ++ (behind ∷ [])) out.new result }
-{
-    let next = put_decimal(out, at, n);
-    put_byte(out, next, behind)
-}
+    pub fn bytes(&mut self, bytes: &[u8])
+        requires { HasRoom self.old (length bytes.now) }
+        ensures { Writes self.old bytes.now self.new }
+    {
+        let end = self.at + bytes.len();
+        self.bytes[self.at..end].copy_from_slice(bytes);
+        self.at = end;
+    }
 
-pub fn put_decimal(out: &mut [u8], at: usize, n: u64) -> usize
-    requires { at + length (decimal n) ≤ length out.old }
-    ensures { Wrote out.old at (decimal n) out.new result }
-{
-    if n < 10 {
-        put_byte(out, at, digit(n))
-    } else {
-        let next = put_decimal(out, at, n / 10);
-        put_byte(out, next, digit(n % 10))
+    // Digit by digit: std's `Display` goes through a formatter, which may fail and says less of the bytes.
+    pub fn decimal(&mut self, n: u64)
+        requires { HasRoom self.old (length (decimal n)) }
+        ensures { Writes self.old (decimal n) self.new }
+    {
+        if n < 10 {
+            self.byte(digit(n));
+        } else {
+            self.decimal(n / 10);
+            self.byte(digit(n % 10));
+        }
+    }
+
+    // A field as it is given, and the byte behind it: a space, or the line's newline.
+    pub fn field(&mut self, field: &[u8], behind: u8)
+        requires { HasRoom self.old (length (field.now ++ (behind ∷ []))) }
+        ensures { Writes self.old (field.now ++ (behind ∷ [])) self.new }
+    {
+        self.bytes(field);
+        self.byte(behind);
+    }
+
+    // A field that is a number, and the byte behind it.
+    pub fn number(&mut self, n: u64, behind: u8)
+        requires { HasRoom self.old (length (decimal n ++ (behind ∷ []))) }
+        ensures { Writes self.old (decimal n ++ (behind ∷ [])) self.new }
+    {
+        self.decimal(n);
+        self.byte(behind);
+    }
+
+    // A line of a name and numbers.
+    pub fn line(&mut self, name: &[u8], numbers: &[u64])
+        requires { HasRoom self.old (length (line (name.now ∷ map decimal numbers.now))) }
+        ensures { Writes self.old (line (name.now ∷ map decimal numbers.now)) self.new }
+    {
+        self.bytes(name);
+        for n in numbers {
+            self.byte(b' ');
+            self.decimal(*n);
+        }
+        self.byte(b'\n');
     }
 }
 
@@ -61,24 +91,5 @@ fn digit(n: u64) -> u8
     requires { n < 10 }
     ensures { result ≡ digit n }
 {
-    48 + n as u8
-}
-
-pub fn put_bytes(out: &mut [u8], at: usize, bytes: &[u8]) -> usize
-    requires { at + length bytes.now ≤ length out.old }
-    ensures { Wrote out.old at bytes.now out.new result }
-{
-    let mut next = at;
-    for i in 0..bytes.len() {
-        next = put_byte(out, next, bytes[i]);
-    }
-    next
-}
-
-pub fn put_byte(out: &mut [u8], at: usize, byte: u8) -> usize
-    requires { at < length out.old }
-    ensures { Wrote out.old at (byte ∷ []) out.new result }
-{
-    out[at] = byte;
-    at + 1
+    b'0' + n as u8
 }

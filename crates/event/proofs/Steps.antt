@@ -1,14 +1,18 @@
 -- The five kinds of step, and the levels that each kind has: document 01, "Steps".
 use Prim.Native.Nat.{ℕ, ◌≤◌, ◌<◌}
-use mathlib.Core.Path.{◌≡◌, refl}
+use mathlib.Core.Path.{◌≡◌, refl, sym, ◌∙◌}
 use mathlib.Core.Logic.{◌≢◌}
-use mathlib.Core.Bool.{true, false}
+use mathlib.Core.Bool.{Bool, true, false}
 use native.Mathlib.Decide.{ℕ_discrete}
 use native.Mathlib.Omega.{arith}
 use lib.Dec.{ltb, leb}
 use borrow.Author.Tests.{eq-eqb, eqb-true, ne_eqb, le-leb, leb-true, lt-ltb, ltb-true}
+use Rattle.std.specs.Prelude.{Result, MatchResult, Ok, Err}
 use Rattle.lists.proofs.Tests.{by_cases, test-clash, both_true}
 use Rattle.event.specs.Event.{level_fits}
+use Rattle.event.specs.declared.NoStep.{NoStep}
+use Rattle.event.specs.declared.Step.{Step}
+use Rattle.event.specs.Inner.Steps.{number_of_step, StepTold}
 
 -- by what an event is: one of the five kinds, or more
 pub by-what : {P : Type 0} (what : ℕ) → (what ≡ 0 → P) → (what ≡ 1 → P) → (what ≡ 2 → P) → (what ≡ 3 → P) → (what ≡ 4 → P) → (4 < what → P) → P
@@ -90,3 +94,10 @@ module _ (k what level : ℕ) where
   level-most f = step-named f
       (λ e. omega (arith, issue-level e f)) (λ e. omega (arith, (forward-level e f).1)) (λ e. omega (arith, module-level e f))
       (λ e. (return-level e f).1) (λ e. omega (arith, collect-level e f))
+
+  -- ---- the kind that a number tells
+  -- where it tells none, it has no level
+  pub told-fits : {b : Bool} {P : Step → Type 0} (r : Result Step NoStep) → StepTold what r →
+      ((step : Step) → P step → b ≡ level_fits k (number_of_step step) level) → MatchResult r P (λ _. b ≡ false) → b ≡ level_fits k what level
+  told-fits (Ok step) told by fits = rw told at (by step fits)
+  told-fits (Err none) told by fits = fits ∙ sym (no_step told)

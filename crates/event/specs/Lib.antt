@@ -1,2 +1,3 @@
 -- Events, drains, and which events name a step.
 pub mod Event
+pub mod Inner

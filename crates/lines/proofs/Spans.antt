@@ -1,4 +1,4 @@
--- Laws of where fields begin and end: the fields behind an offset are found by a walk past spaces and one past a field.
+-- Laws of where fields begin and end: the first field of a line is found by a walk past spaces and one past the field.
 use Prim.Native.Nat.{ℕ, zero, suc, ◌+◌, ◌-◌, ◌≤◌, ◌<◌}
 use mathlib.Core.Path.{◌≡◌, refl, sym, ◌∙◌, ap}
 use mathlib.Core.Logic.{◌≢◌}
@@ -6,8 +6,10 @@ use mathlib.Core.Bool.{Bool, true, false}
 use mathlib.Core.List.{List, [], ◌∷◌}
 use native.Mathlib.Decide.{ℕ_discrete}
 use native.Mathlib.Omega.{arith}
-use lib.ListN.{length, get_or, take, drop, length-drop, drop_of_length-le}
-use lib.Seq.{drop-cons, drop-drop}
+use lib.ListN.{length, get_or, take, drop, length-drop, length-take}
+use lib.Seq.{take_all}
+use Rattle.std.proofs.Common.{◌-◌, one-add, take_while, cond}
+use Rattle.std.specs.List.{prefix_len}
 use borrow.Author.Tests.{eq-eqb, ne_eqb}
 use Rattle.lists.specs.Choice.{choose}
 use Rattle.lists.proofs.Tests.{by_cases, test-cases}
@@ -15,18 +17,16 @@ use Rattle.lines.specs.Said.{leading, is_space, in_field, past_spaces, first_fie
 
 -- ---- the elements in front of the first that fails a test
 module _ (test : ℕ → Bool) where
-  pub leading_step : (line : List ℕ) (i : ℕ) → i < length line → test (get_or line i 0) ≡ true →
-      leading test (drop i line) ≡ suc (leading test (drop (suc i) line))
+  -- as a chain of iterators counts them
+  pub leading_while : (s : List ℕ) → length (take_while test s) ≡ leading test s
   unfolding leading
-  leading_step line i h t = rw (drop-cons line i 0 h, t)
+  leading_while [] = refl
+  leading_while (c ∷ s) =
+      test-cases (λ (b : Bool). length (take (cond b (1 + prefix_len test s) 0) (c ∷ s)) ≡ choose b (suc (leading test s)) 0) (test c)
+      (λ e. rw one-add (ap suc (leading_while s))) (λ e. refl)
 
-  pub leading-stop : (line : List ℕ) (i : ℕ) → i < length line → test (get_or line i 0) ≡ false → leading test (drop i line) ≡ 0
-  unfolding leading
-  leading-stop line i h t = rw (drop-cons line i 0 h, t)
-
-  pub leading_end : (line : List ℕ) (i : ℕ) → length line ≤ i → leading test (drop i line) ≡ 0
-  unfolding leading
-  leading_end line i h = rw (drop_of_length-le line {i = i} h)
+  pub leading-within : (s : List ℕ) → leading test s ≤ length s
+  leading-within s = omega (arith, leading_while s, length-take (prefix_len test s) s)
 
   leading-some : (s : List ℕ) → 0 < length s → test (get_or s 0 0) ≡ true → 0 < leading test s
   unfolding leading
@@ -73,38 +73,18 @@ enough (suc m) (suc k) s hm hk =
     ∙ ap (λ (fs : List (List ℕ)). first_field (past_spaces s) ∷ fs) (enough m k (past_field (past_spaces s)) (omega arith) (omega arith))
     ∙ sym (up-some k s n))
 
-fields-none : (s : List ℕ) → length (past_spaces s) ≡ 0 → fields s ≡ []
+pub fields-none : (s : List ℕ) → length (past_spaces s) ≡ 0 → fields s ≡ []
 unfolding fields
 fields-none s e = up_none (length s) s e
 
-fields-some : (s : List ℕ) → length (past_spaces s) ≢ 0 → fields s ≡ first_field (past_spaces s) ∷ fields (past_field (past_spaces s))
+pub fields-some : (s : List ℕ) → length (past_spaces s) ≢ 0 → fields s ≡ first_field (past_spaces s) ∷ fields (past_field (past_spaces s))
 unfolding fields
 fields-some s n = let less = shorter s n in
     enough (length s) (suc (length s)) s (omega arith) (omega arith) ∙ up-some (length s) s n
     ∙ ap (λ (fs : List (List ℕ)). first_field (past_spaces s) ∷ fs) (enough (length s) _ (past_field (past_spaces s)) (omega arith) (omega arith))
 
--- ---- the fields behind an offset
-module _ (line : List ℕ) (at begin : ℕ) (spaces : begin ≡ at + leading is_space (drop at line)) where
-  past_is : past_spaces (drop at line) ≡ drop begin line
-  past_is = drop-drop (leading is_space (drop at line)) at line ∙ ap (λ (n : ℕ). drop n line) (sym spaces)
-
-  pub fields-end : length line ≤ begin → fields (drop at line) ≡ []
-  fields-end h = fields-none (drop at line) (ap (λ (l : List ℕ). length l) (past_is ∙ drop_of_length-le line {i = begin} h))
-
-  -- a field has a byte at least
-  pub field-some : (end : ℕ) → begin < length line → end ≡ begin + leading in_field (drop begin line) → begin < end
-  field-some end h e =
-      let some : 0 < length (drop begin line) = omega (arith, length-drop begin line) in
-      let stop : is_space (get_or (drop begin line) 0 0) ≡ false = rw past_is at (stops is_space (drop at line) (rw past_is some)) in
-      omega (arith, leading-some in_field (drop begin line) some (rw stop))
-
-  pub fields-next : (end : ℕ) → begin < length line → end ≡ begin + leading in_field (drop begin line) →
-      fields (drop at line) ≡ take (end - begin) (drop begin line) ∷ fields (drop end line)
-  fields-next end h e =
-      let some : length (past_spaces (drop at line)) ≢ 0 = rw past_is (λ z. omega (arith, length-drop begin line)) in
-      let long : leading in_field (drop begin line) ≡ end - begin = omega arith in
-      fields-some (drop at line) some
-      ∙ ap (λ (l : List ℕ). first_field l ∷ fields (past_field l)) past_is
-      ∙ ap (λ (n : ℕ). take n (drop begin line) ∷ fields (past_field (drop begin line))) long
-      ∙ ap (λ (l : List ℕ). take (end - begin) (drop begin line) ∷ fields l)
-      (drop-drop (leading in_field (drop begin line)) begin line ∙ ap (λ (n : ℕ). drop n line) (sym e))
+-- ---- what a line has behind its first spaces
+pub spaces-passed : (line : List ℕ) (n : ℕ) → n ≡ length (take_while is_space line) → take (length line - n) (drop n line) ≡ past_spaces line
+spaces-passed line n e =
+    let short : length (drop n line) ≤ length line - n = omega (arith, length-drop n line) in
+    take_all (length line - n) (drop n line) short ∙ ap (λ (k : ℕ). drop k line) (e ∙ leading_while is_space line)

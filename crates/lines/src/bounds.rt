@@ -1,44 +1,34 @@
 // Where the fields of a line begin and end.
-ghost use Rattle.std.specs.Prelude.{◌≡◌, ◌+◌, ◌≤◌, length, drop};
-ghost use Rattle.lines.specs.Said.{leading, is_space, in_field};
+ghost use Rattle.std.specs.Prelude.{◌≡◌, [], ◌∷◌, length, take_while, MatchOption};
+ghost use Rattle.lines.specs.Said.{is_space, in_field, fields};
 
-// Past the spaces at an offset.
-pub fn past_spaces(line: &[u8], at: usize) -> usize
-    requires { at ≤ length line.now }
-    ensures { (result ≡ at + leading is_space (drop at line.now)) × (result ≤ length line.now) }
+// The first field of a line and what stands behind it, where the line has more than spaces.
+pub fn split_field(line: &[u8]) -> Option<(&[u8], &[u8])>
+    ensures { MatchOption result (fields line.now ≡ []) (λ parts. fields line.now ≡ parts.0.now ∷ fields parts.1.now) }
 {
-    let mut i = at;
-    while i < line.len() {
-        if !is_space(line[i]) {
-            return i;
-        }
-        i += 1;
+    let begun = &line[leading_spaces(line)..];
+    if begun.is_empty() {
+        return None;
     }
-    i
+    Some(begun.split_at(field_length(begun)))
 }
 
-// Past the field at an offset.
-pub fn past_field(line: &[u8], at: usize) -> usize
-    requires { at ≤ length line.now }
-    ensures { (result ≡ at + leading in_field (drop at line.now)) × (result ≤ length line.now) }
+// How many spaces a text begins with.
+fn leading_spaces(text: &[u8]) -> usize
+    ensures { result ≡ length (take_while is_space text.now) }
 {
-    let mut i = at;
-    while i < line.len() {
-        if is_space(line[i]) {
-            return i;
-        }
-        i += 1;
-    }
-    i
+    text.iter().take_while(|c| is_space(**c)).count()
+}
+
+// How many bytes stand in front of the first space.
+fn field_length(text: &[u8]) -> usize
+    ensures { result ≡ length (take_while in_field text.now) }
+{
+    text.iter().take_while(|c| !is_space(**c)).count()
 }
 
 fn is_space(c: u8) -> bool
     ensures { result ≡ is_space c }
 {
-    match c {
-        32 => true,
-        9 => true,
-        13 => true,
-        _ => false,
-    }
+    matches!(c, b' ' | b'\t' | b'\r')
 }

@@ -1,20 +1,25 @@
 // What a line says: request No. 1 of document 02.
 #![tactic(auto)]
 
-ghost use Rattle.std.specs.Prelude.{◌≡◌, true, ◌≤◌, length, get_or, drop, eqb};
-ghost use Rattle.trace.specs.Table.{is_row, kind_row};
+ghost use Rattle.std.specs.Prelude.{◌≡◌, get_or, eqb};
+ghost use Rattle.trace.specs.Inner.Kinds.{number_of_kind};
 ghost use Rattle.lines.specs.Said.{fields};
 ghost use Rattle.lines.specs.Inner.Read.{kind_says, SaidRead, LineRead};
 
-use field::Told;
+use bounds::split_field;
+use field::{field_count, field_told};
+use names::kind_named;
+use trace::kind::RecordKind;
 
 mod bounds;
 mod field;
 mod names;
 
+pub use names::{OPERATIONS, WHATS};
+
 // Why a line is no item: no record has its first field for a name; or a field of the record is not there, is one too many, is no
 // number, or is one that its bytes do not hold.
-#[derive(Clone, Copy)]
+#[derive(Clone, Copy, Debug, PartialEq, Eq)]
 pub enum Reason {
     Name,
     Missing,
@@ -23,13 +28,11 @@ pub enum Reason {
     TooLarge,
 }
 
-// What a line says: nothing; an item of a kind, whose numbers stand at the front of the values; or that it is no item, why, and the
-// field, 0 for the name.
-#[derive(Clone, Copy)]
-pub enum Said {
-    Skipped,
-    Item(u16),
-    Wrong(Reason, usize),
+// That a line is no item: why, and the field, 0 for the name.
+#[derive(Clone, Copy, Debug, PartialEq, Eq)]
+pub struct Wrong {
+    pub reason: Reason,
+    pub place: usize,
 }
 
 // A request has the most fields.
@@ -37,60 +40,58 @@ pub const MOST_FIELDS: usize = 5;
 
 pub type Values = [u64; MOST_FIELDS];
 
-pub fn line_says(line: &[u8], values: &mut Values) -> Said
-    requires { length values.old ≡ 5 }
+// What a line says: nothing; or an item of a kind, whose numbers stand at the front of the values.
+pub fn line_says(line: &[u8], values: &mut Values) -> Result<Option<RecordKind>, Wrong>
     ensures { LineRead line.now result values.new }
 {
     if is_comment(line) {
-        return Said::Skipped;
+        return Ok(None);
     }
-    let begin = bounds::past_spaces(line, 0);
-    if begin == line.len() {
-        return Said::Skipped;
-    }
-    let end = bounds::past_field(line, begin);
-    let kind = names::kind_named(&line[begin..end]);
-    if kind == 0 {
-        return Said::Wrong(Reason::Name, 0);
-    }
-    fields_say(line, end, kind, values)
+    let Some((name, rest)) = split_field(line) else {
+        return Ok(None);
+    };
+    let wrong = Wrong {
+        reason: Reason::Name,
+        place: 0,
+    };
+    let kind = kind_named(name).ok_or(wrong)?;
+    fields_say(rest, kind, values)
 }
 
 fn is_comment(line: &[u8]) -> bool
     ensures { result ≡ eqb (get_or line.now 0 0) 35 }
 {
-    if line.len() == 0 {
-        return false;
-    }
-    line[0] == b'#'
+    line.first() == Some(&b'#')
 }
 
 // What the fields behind the name of a kind say, field by field.
-fn fields_say(line: &[u8], start: usize, kind: u16, values: &mut Values) -> Said
-    requires { (start ≤ length line.now) × (length values.old ≡ 5) × (is_row (kind_row kind) ≡ true) }
-    ensures { SaidRead (kind_says kind (fields (drop start line.now))) result values.new }
+fn fields_say(
+    line: &[u8],
+    kind: RecordKind,
+    values: &mut Values,
+) -> Result<Option<RecordKind>, Wrong>
+    ensures { SaidRead (kind_says (number_of_kind kind) (fields line.now)) result values.new }
 {
-    let count = field::field_count(kind);
-    let mut at = start;
+    let count = field_count(kind);
+    let mut rest = line;
     for place in 0..count {
-        let begin = bounds::past_spaces(line, at);
-        if begin == line.len() {
-            return Said::Wrong(Reason::Missing, place + 1);
-        }
-        let end = bounds::past_field(line, begin);
-        let told = field::field_told(kind, place, &line[begin..end]);
-        match told {
-            Told::Bad(reason) => {
-                return Said::Wrong(reason, place + 1);
-            }
-            Told::Value(n) => {
-                values[place] = n;
-                at = end;
-            }
-        }
+        let Some((field, behind)) = split_field(rest) else {
+            return Err(Wrong {
+                reason: Reason::Missing,
+                place: place + 1,
+            });
+        };
+        rest = behind;
+        values[place] = field_told(kind, place, field).map_err(|reason| Wrong {
+            reason,
+            place: place + 1,
+        })?;
     }
-    if bounds::past_spaces(line, at) < line.len() {
-        return Said::Wrong(Reason::Extra, count + 1);
+    match split_field(rest) {
+        Some(_) => Err(Wrong {
+            reason: Reason::Extra,
+            place: count + 1,
+        }),
+        None => Ok(Some(kind)),
     }
-    Said::Item(kind)
 }

@@ -1,18 +1,10 @@
 -- The length of fields, fields that have no name, and the line of a record's last kind.
-use Prim.Native.Nat.{ℕ, ◌≤◌, ◌<◌}
-use mathlib.Core.Path.{◌≡◌, refl, sym, ◌∙◌, ap}
-use mathlib.Core.Logic.{◌≢◌}
-use mathlib.Core.Bool.{true}
-use mathlib.Core.List.{List}
+use Prim.Native.Nat.{ℕ, zero, suc, ◌^◌, ◌≤◌, ◌<◌}
+use mathlib.Core.List.{[], ◌∷◌, ◌++◌}
 use native.Mathlib.Omega.{arith}
-use lib.ListN.{length, get_or-eq_default}
-use Rattle.digits.specs.Numeral.{decimal}
-use Rattle.digits.proofs.Numerals.{numeral-length}
-use Rattle.event.specs.Event.{Act, event, drain}
-use Rattle.trace.specs.Item.{Item, act}
-use Rattle.trace.specs.Table.{is_row, body_row, parts_of, row_of}
-use Rattle.trace.proofs.Table.{says-act, kind-item}
-use Rattle.lines.specs.Forms.{operations, whats}
+use lib.ListN.{length, length-append}
+use Rattle.digits.specs.Numeral.{bytes_of, decimal}
+use Rattle.digits.proofs.Numerals.{numeral-length, decimal-word}
 use Rattle.listing.specs.Inner.Fields.{operation_shown, what_shown}
 
 -- ---- length
@@ -23,24 +15,33 @@ decimal-byte n h = numeral-length 10 (omega arith) 2 n (omega arith)
 pub decimal-two : (n : ℕ) → n < 65536 → length (decimal n) ≤ 5
 decimal-two n h = numeral-length 10 (omega arith) 4 n (omega arith)
 
--- ---- numbers without a name
-pub operation-unnamed : (v : ℕ) → 4 ≤ v → operation_shown v ≡ decimal v
-unfolding operation_shown
-operation-unnamed v h = get_or-eq_default operations (decimal v) {n = v} (omega arith)
+-- and with the byte behind it
+pub byte-field : (n behind : ℕ) → n < 256 → length (decimal n ++ (behind ∷ [])) ≤ 4
+byte-field n behind h = simp length-append (omega (arith, decimal-byte n h))
 
-pub what-unnamed : (v : ℕ) → 5 ≤ v → what_shown v ≡ decimal v
-unfolding what_shown
-what-unnamed v h = get_or-eq_default whats (decimal v) {n = v} (omega arith)
+pub word-field : (n behind : ℕ) → n < 2 ^ 64 → length (decimal n ++ (behind ∷ [])) ≤ 21
+word-field n behind h = simp length-append (omega (arith, decimal-word n h))
 
--- ---- kinds
--- of the acts, what is no event is a drain
-act-drain : (a : Act) → (row_of (act a)).kind ≢ 4 → (row_of (act a)).kind ≡ 5
-unfolding parts_of
-act-drain (event e) n = absurd (n refl)
-act-drain (drain rounds) n = refl
+-- ---- numbers that may have a name, and the space behind them
+operation-short : (v : ℕ) → v < 256 → length (operation_shown v) ≤ 4
+unfolding operation_shown bytes_of
+operation-short zero h = omega arith
+operation-short (suc zero) h = omega arith
+operation-short (suc (suc zero)) h = omega arith
+operation-short (suc (suc (suc zero))) h = omega arith
+operation-short (suc (suc (suc (suc v)))) h = omega (arith, decimal-byte (suc (suc (suc (suc v)))) h)
 
-pub last-kind : {kind : ℕ} (b : List ℕ) → kind ≢ 1 → kind ≢ 2 → kind ≢ 3 → kind ≢ 4 → is_row (body_row kind (length b)) ≡ true → kind ≡ 5
-last-kind {kind} b n₁ n₂ n₃ n₄ is =
-    let said = says-act b n₁ n₂ n₃ is in
-    let kind-is : (row_of (act said.0)).kind ≡ kind = ap (λ (x : Item). (row_of x).kind) (sym said.1) ∙ kind-item kind b is in
-    sym kind-is ∙ act-drain said.0 (λ e. n₄ (sym kind-is ∙ e))
+what-short : (v : ℕ) → v < 256 → length (what_shown v) ≤ 7
+unfolding what_shown bytes_of
+what-short zero h = omega arith
+what-short (suc zero) h = omega arith
+what-short (suc (suc zero)) h = omega arith
+what-short (suc (suc (suc zero))) h = omega arith
+what-short (suc (suc (suc (suc zero)))) h = omega arith
+what-short (suc (suc (suc (suc (suc v))))) h = omega (arith, decimal-byte (suc (suc (suc (suc (suc v))))) h)
+
+pub operation-field : (v : ℕ) → v < 256 → length (operation_shown v ++ (32 ∷ [])) ≤ 5
+operation-field v h = simp length-append (omega (arith, operation-short v h))
+
+pub what-field : (v : ℕ) → v < 256 → length (what_shown v ++ (32 ∷ [])) ≤ 8
+what-field v h = simp length-append (omega (arith, what-short v h))

@@ -10,8 +10,9 @@ use lib.Dec.{ltb}
 use borrow.Author.Tests.{ltb-false, le-ltb}
 use Rattle.lists.specs.Choice.{choose}
 use Rattle.lists.proofs.Tests.{clash}
-use Rattle.digits.specs.Inner.Buffer.{Wrote, Printed}
-use Rattle.digits.proofs.Buffer.{wrote_nothing, wrote_then, wrote-printed}
+use Rattle.digits.specs.Inner.Buffer.{HasRoom, WritesWithin}
+use Rattle.digits.specs.declared.LentBuffer.{LentBuffer}
+use Rattle.digits.proofs.Buffer.{writes_nothing, within_then, within-more, room-within}
 use Rattle.trace.specs.Item.{Items, none, after}
 use Rattle.trace.specs.Table.{item}
 use Rattle.trace.specs.Records.{nothing, faulty, whole, split, records}
@@ -36,14 +37,13 @@ unfolding check
 is-accepted s {xs} e = record { short = choice-short s _ (ltb 65536 (length s)) refl e; verdict = rw e }
 
 -- the start: no line, and the whole trace decides
-pub walk-starts : (s out : List ℕ) → IsAccepted s → ListedTo s out 0 0 out
+pub walk-starts : (s : List ℕ) (out : LentBuffer) → IsAccepted s → ListedTo s out 0 out
 unfolding check item_lines
 walk-starts s out a = record {
   items = none;
   inside = omega arith;
   verdict = simp (le-ltb 65536 (length s) a.short);
-  wrote = wrote_nothing out 0;
-  low = omega arith;
+  wrote = record { writes = writes_nothing out; short = omega arith };
 }
 
 -- where the verdict accepts, the record that stands first is not refused, and the rest decides
@@ -66,29 +66,28 @@ unfolding ended
 ended-items none e = clash (cc)
 ended-items (after before x) e = cc
 
-module _ {s : List ℕ} (a : IsAccepted s) {out mid : List ℕ} {at next : ℕ} (w : ListedTo s out at next mid) where
+module _ {s : List ℕ} (a : IsAccepted s) {out mid : LentBuffer} {at : ℕ} (w : ListedTo s out at mid) where
   -- what follows the items before is accepted
   rest-accepted : check_records w.items (records (drop at s)) ≡ accepted (items_of (check s))
   rest-accepted = sym w.verdict ∙ a.verdict
 
   -- a record has room for its line
-  pub walk-room : {kind section size : ℕ} {b : List ℕ} → Body s at kind section size b → listing_room ≤ length mid → next + 4 * (4 + length b) ≤ length mid
-  walk-room body room = omega (arith, w.low, body.inside, a.short)
+  pub walk-room : {kind : ℕ} {b : List ℕ} → Body s at kind b → HasRoom out listing_room → HasRoom mid (4 * (4 + length b))
+  walk-room body room = room-within w.wrote _ (omega (arith, body.inside, a.short, room))
 
-  pub walk-goes : {kind section size : ℕ} {b after : List ℕ} {last : ℕ} → Body s at kind section size b → length b ≡ size →
-      Wrote mid next (item_line (item kind b)) after last → last ≤ next + 4 * (4 + length b) → ListedTo s out (at + 4 + size) last after
+  pub walk-goes : {kind : ℕ} {b : List ℕ} {after : LentBuffer} → Body s at kind b →
+      WritesWithin (4 * (4 + length b)) mid (item_line (item kind b)) after → ListedTo s out (at + 4 + length b) after
   unfolding item_lines
-  walk-goes {kind} {section} {size} {b} {after = after'} {last} body long written short =
-      let end_is : at + (4 + length b) ≡ at + 4 + size = omega arith in
-      let behind : drop (4 + length b) (drop at s) ≡ drop (at + 4 + size) s = drop-drop (4 + length b) at s ∙ ap (λ (n : ℕ). drop n s) end_is in
+  walk-goes {kind} {b} {after = after'} body written =
+      let end_is : at + (4 + length b) ≡ at + 4 + length b = omega arith in
+      let behind : drop (4 + length b) (drop at s) ≡ drop (at + 4 + length b) s = drop-drop (4 + length b) at s ∙ ap (λ (n : ℕ). drop n s) end_is in
       record {
         items = after w.items (item kind b);
         inside = omega (arith, body.inside);
         verdict =
             w.verdict ∙ whole-decides w.items (drop at s) kind b body.stands rest-accepted
             ∙ ap (λ (l : List ℕ). check_records (after w.items (item kind b)) (records l)) behind;
-        wrote = wrote_then w.wrote written;
-        low = omega (arith, w.low, short);
+        wrote = within-more (omega arith) (within_then w.wrote written);
       }
 
   -- an accepted trace has no record that is faulty in itself
@@ -97,10 +96,10 @@ module _ {s : List ℕ} (a : IsAccepted s) {out mid : List ℕ} {at next : ℕ} 
   walk-whole {n = n} e = not-refused (ap (check_records w.items) (records-faulty (drop at s) n e)) rest-accepted
 
   -- the end: all lines are written
-  pub walk_ends : split (drop at s) ≡ nothing → listing_room ≤ length out → Printed (listing s) out mid next
+  pub walk_ends : split (drop at s) ≡ nothing → WritesWithin listing_room out (listing s) mid
   unfolding check_records listing listed
-  walk_ends e room =
+  walk_ends e =
       let all : w.items ≡ items_of (check s) =
       ended-items w.items (ap (check_records w.items) (sym (records-nothing (drop at s) e)) ∙ rest-accepted) in
       let text : item_lines w.items ≡ listing s = ap item_lines all ∙ sym (ap listed a.verdict) in
-      wrote-printed (rw (← text) w.wrote) (omega (arith, w.low, w.inside, a.short))
+      within-more {a = 4 * at} (omega (arith, w.inside, a.short)) (rw (← text) w.wrote)

@@ -1,5 +1,5 @@
 -- The items of a trace as lines: request No. 1 of document 02, as the program `items` prints them.
-use Rattle.std.specs.Prelude.{ℕ, suc, ◌*◌, ◌≤◌, ◌≡◌, List, [], ◌∷◌, ◌++◌, length, get_or, take, leb}
+use Rattle.std.specs.Prelude.{ℕ, suc, ◌*◌, ◌≤◌, ◌≡◌, List, [], ◌∷◌, ◌++◌, length, get_or, take, leb, Option, Some, None, IfSome}
 use Rattle.lists.specs.Choice.{choose}
 use Rattle.lists.specs.Over.{over}
 use Rattle.digits.specs.Numeral.{decimal}
@@ -9,7 +9,6 @@ use Rattle.trace.specs.Item.{Item, Items, none, after}
 use Rattle.trace.specs.Table.{Parts, parts_of, size}
 use Rattle.trace.specs.Check.{Verdict, refused, accepted, check}
 use Rattle.lines.specs.Forms.{name_of, names_at}
-use Rattle.listing.specs.declared.Printed.{Printed}
 
 -- "`items` prints the names, one space between": the name of a number where it has one, else the number in decimal
 unfoldable pub shown_from : ℕ → ℕ → List ℕ → List (List ℕ)
@@ -40,10 +39,9 @@ listing trace = listed (check trace)
 abbrev pub listing_room : ℕ
 listing_room = 4 * 65536
 
--- the text at the start of a buffer that has room for every listing, and its length; a smaller buffer stays as it is
-pub record Listed (trace before : List ℕ) (r : Printed) (after : List ℕ) : Type 0 where
-  pub fits-is : r.fits ≡ leb listing_room (length before)
-  pub len_is : r.len ≡ choose (leb listing_room (length before)) (length (listing trace)) 0
+-- the text at the start of a buffer that has room for every listing, and its length; a smaller buffer stays as it is, and no length is told
+pub record Listed (trace before : List ℕ) (r : Option ℕ) (after : List ℕ) : Type 0 where
+  pub len_is : r ≡ choose (leb listing_room (length before)) (Some (length (listing trace))) None
   pub text-is : after ≡ choose (leb listing_room (length before)) (over (listing trace) before) before
   -- so that a caller may take the part that was written
-  pub counts : (r.len ≤ length after) × (r.len ≡ length (take r.len after))
+  pub counts : IfSome r (λ len. (len ≤ length after) × (len ≡ length (take len after)))

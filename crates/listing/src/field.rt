@@ -1,50 +1,17 @@
-// The fields of a line, each with the byte behind it.
-ghost use Rattle.std.specs.Prelude.{[], ◌∷◌, ◌++◌, ◌+◌, ◌≤◌, length};
-ghost use Rattle.digits.specs.Numeral.{decimal};
-ghost use Rattle.digits.specs.Inner.Buffer.{Wrote};
-ghost use Rattle.listing.specs.Inner.Fields.{operation_shown, what_shown};
+// The fields that may be a name: an operation, and what an event is.
+ghost use Rattle.std.specs.Prelude.{[], ◌∷◌, ◌++◌, length, map};
+ghost use Rattle.digits.specs.Inner.Buffer.{HasRoom, Writes};
+ghost use Rattle.listing.specs.Inner.Fields.{shown_of};
 
-// A number of one byte, in decimal.
-pub fn put_narrow(out: &mut [u8], at: usize, v: u8, behind: u8) -> usize
-    requires { at + 4 ≤ length out.old }
-    ensures { Wrote out.old at (decimal v ++ (behind ∷ [])) out.new result × (result ≤ at + 4) }
-{
-    digits::put_number(out, at, v as u64, behind)
-}
+use digits::LentBuffer;
 
-// A number of eight bytes, in decimal.
-pub fn put_wide(out: &mut [u8], at: usize, v: u64, behind: u8) -> usize
-    requires { at + 21 ≤ length out.old }
-    ensures { Wrote out.old at (decimal v ++ (behind ∷ [])) out.new result × (result ≤ at + 21) }
+// A number by its name, or in decimal where it has none, and the space behind it.
+pub fn put_named(out: &mut LentBuffer, names: &[&[u8]], v: u8)
+    requires { HasRoom out.old (length (shown_of (map (λ n. n.now) names.now) v ++ (32 ∷ []))) }
+    ensures { Writes out.old (shown_of (map (λ n. n.now) names.now) v ++ (32 ∷ [])) out.new }
 {
-    digits::put_number(out, at, v, behind)
-}
-
-// An operation by its name, or by its number where it has none.
-pub fn put_operation(out: &mut [u8], at: usize, v: u8) -> usize
-    requires { at + 5 ≤ length out.old }
-    ensures { Wrote out.old at (operation_shown v ++ (32 ∷ [])) out.new result × (result ≤ at + 5) }
-{
-    match v {
-        0 => digits::put_field(out, at, b"load", b' '),
-        1 => digits::put_field(out, at, b"swap", b' '),
-        2 => digits::put_field(out, at, b"add", b' '),
-        3 => digits::put_field(out, at, b"mask", b' '),
-        _ => put_narrow(out, at, v, b' '),
-    }
-}
-
-// A step of an event by its name, or by its number where it has none.
-pub fn put_what(out: &mut [u8], at: usize, v: u8) -> usize
-    requires { at + 8 ≤ length out.old }
-    ensures { Wrote out.old at (what_shown v ++ (32 ∷ [])) out.new result × (result ≤ at + 8) }
-{
-    match v {
-        0 => digits::put_field(out, at, b"issue", b' '),
-        1 => digits::put_field(out, at, b"forward", b' '),
-        2 => digits::put_field(out, at, b"module", b' '),
-        3 => digits::put_field(out, at, b"return", b' '),
-        4 => digits::put_field(out, at, b"collect", b' '),
-        _ => put_narrow(out, at, v, b' '),
+    match names.get(v as usize) {
+        Some(name) => out.field(name, b' '),
+        None => out.number(v as u64, b' '),
     }
 }

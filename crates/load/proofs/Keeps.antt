@@ -1,23 +1,25 @@
 -- After a record that is not refused the memory and the machine say what the items say with it.
 use Prim.Native.Nat.{ℕ}
-use mathlib.Core.Path.{◌≡◌, ap, sym, ◌∙◌}
+use mathlib.Core.Path.{◌≡◌, refl, ap, sym, ◌∙◌}
 use mathlib.Core.Logic.{◌≢◌}
 use mathlib.Core.Bool.{true}
 use mathlib.Core.List.{List}
-use native.Mathlib.Decide.{ℕ_discrete}
 use lib.ListN.{length, set, length-set}
-use Rattle.lists.proofs.Tests.{by_cases}
-use Rattle.event.specs.Event.{Act}
+use Rattle.event.specs.Event.{Act, event, drain}
 use Rattle.view.specs.Inner.View.{View}
 use Rattle.trace.specs.Item.{Shape, Word, Request, shape, word, request, act, Items}
 use Rattle.trace.specs.Table.{is_row, body_row, item}
 use Rattle.trace.specs.Contents.{contents, add, shape_of, words_given, requests_of, start_words}
 use Rattle.trace.specs.Refusals.{fault}
-use Rattle.trace.specs.Inner.Known.{shape_in, Same}
+use Rattle.trace.specs.Bytes.{number}
+use Rattle.trace.specs.Inner.Kinds.{number_of_kind}
+use Rattle.trace.specs.Inner.Known.{shape_in, event_in, Same}
+use Rattle.trace.specs.declared.kind.RecordKind.{RecordKind}
+use Rattle.trace.specs.declared.kind.RecordKind.TheVariants as Kind
 use Rattle.trace.specs.declared.progress.Progress.{Progress}
 use Rattle.trace.proofs.Contents.{start-words-more}
 use Rattle.trace.proofs.Ranges.{shape-first}
-use Rattle.trace.proofs.Table.{says-shape, says-act}
+use Rattle.trace.proofs.Table.{says-shape, says-event, says-drain}
 use Rattle.trace.proofs.Known.{act-same}
 use Rattle.load.specs.Inner.Machine.{RequestsHeld}
 use Rattle.load.specs.Inner.Loop.{LoadedSoFar, RequestPut, Put}
@@ -57,7 +59,7 @@ module _ {p : Progress} {words m : List ℕ} (words_size : length words ≡ 256)
     };
   }
 
-  pub put-request : (r : Request) (m' : List ℕ) → RequestPut p.k r p.requests m m' → Put (request r) p words m words m'
+  pub put-request : (r : Request) (m' : List ℕ) → RequestPut p.facts.k r p.facts.requests m m' → Put (request r) p words m words m'
   unfolding contents add
   put-request r m' put = record {
     words_size = words_size;
@@ -72,8 +74,10 @@ module _ {p : Progress} {words m : List ℕ} (words_size : length words ≡ 256)
   put-act a = record { words_size = words_size; loaded = λ before marks known loaded f. loaded-same (act-same before a) loaded }
 
   -- a body that is no word and no request says a shape or an act, which leave nothing
-  pub put_other : {kind : ℕ} (b : List ℕ) → kind ≢ 2 → kind ≢ 3 → is_row (body_row kind (length b)) ≡ true → Put (item kind b) p words m words m
-  put_other {kind} b two three is =
-      by_cases (ℕ_discrete kind 1)
-      (λ (one : kind ≡ 1). rw (says-shape b one is).is (put-shape (shape_in b)))
-      (λ (one : kind ≢ 1). let said = says-act b one two three is in rw said.1 (put-act said.0))
+  pub put_other : (kind : RecordKind) (b : List ℕ) → kind ≢ Kind.Word → kind ≢ Kind.Request → is_row (body_row (number_of_kind kind) (length b)) ≡ true →
+      Put (item (number_of_kind kind) b) p words m words m
+  put_other Kind.Shape b w r is = rw (says-shape b refl is).is (put-shape (shape_in b))
+  put_other Kind.Word b w r is = absurd (w refl)
+  put_other Kind.Request b w r is = absurd (r refl)
+  put_other Kind.Event b w r is = rw (says-event b refl is).is (put-act (event (event_in b)))
+  put_other Kind.Drain b w r is = rw (says-drain b refl is).is (put-act (drain (number 2 b 0)))

@@ -9,8 +9,8 @@ use Rattle.trace.proofs.Known.{known_same}
 use Rattle.load.specs.Inner.Loop.{Onward}
 use Rattle.load.proofs.Keeps.{loaded-same}
 
-pub onward-run : (s : List ℕ) (p : Progress) (end : ℕ) → Passed s p.k p.at end → p.section ≡ 4 →
-    Onward s p (record { at = end; section = p.section; k = p.k; q = p.q; w = p.w; requests = p.requests; acts_at = p.acts_at })
+pub onward-run : (s : List ℕ) (p : Progress) (end : ℕ) → Passed s p.facts.k p.at end → p.section ≡ 4 →
+    Onward s p (record p { at = end })
 onward-run s p end passed section-is = record {
   onward = passed.onward;
   inside = λ marks words m i.
@@ -29,7 +29,7 @@ onward-run s p end passed section-is = record {
         };
         so_far = record {
           before = r.all;
-          known = known_same r.same so.known (omega (arith, r.size_is, so.known.at-is)) (section-is ∙ sym r.last-is) refl refl refl refl refl;
+          known = known_same r.same so.known (omega (arith, r.size_is, so.known.at-is)) (section-is ∙ sym r.last-is) refl;
           marks-sized = so.marks-sized;
           loaded = loaded-same r.same so.loaded;
           verdict = so.verdict ∙ r.verdict;

@@ -2,6 +2,7 @@
 use Prim.Native.Nat.{ℕ}
 use mathlib.Core.Path.{◌≡◌, refl, ap, sym, ◌∙◌}
 use mathlib.Core.List.{List}
+use Rattle.std.specs.Prelude.{Err}
 use Rattle.lists.proofs.Tests.{clash}
 use Rattle.trace.specs.Item.{Items}
 use Rattle.trace.specs.Table.{size}
@@ -9,7 +10,7 @@ use Rattle.trace.specs.Check.{Verdict, refused, accepted, check}
 use Rattle.trace.specs.Answers.{number_of}
 use Rattle.trace.specs.Inner.Told.{refusal, answered}
 use Rattle.trace.specs.declared.Fault.{Fault}
-use Rattle.trace.specs.declared.Answer.TheVariants.{Refused}
+use Rattle.trace.specs.declared.Refusal.{Refusal}
 use Rattle.load.specs.Inner.Loaded.{Loaded}
 
 pub record Closed (s : List ℕ) (f : Fault) (at : ℕ) : Type 0 where
@@ -17,16 +18,16 @@ pub record Closed (s : List ℕ) (f : Fault) (at : ℕ) : Type 0 where
   pub refuses : check s ≡ refused (number_of f) before
   pub at-is : at ≡ size before
 
-pub loaded-refused : {s : List ℕ} {f : Fault} {at : ℕ} {marks words m : List ℕ} → Loaded s (Refused f at) marks words m → Closed s f at
-loaded-refused {s} {f} {at} l = go (check s) refl l.answer
+pub loaded-refused : {s : List ℕ} {e : Refusal} {marks words m : List ℕ} → Loaded s (Err e) marks words m → Closed s e.fault e.offset
+loaded-refused {s} {e = r} l = go (check s) refl l.answer
   where
-    number_is : (n m : ℕ) → refusal (number_of f) at ≡ refusal n m → number_of f ≡ n
+    number_is : (n m : ℕ) → refusal (number_of r.fault) r.offset ≡ refusal n m → number_of r.fault ≡ n
     number_is n m h = cc
 
-    offset-is : (n m : ℕ) → refusal (number_of f) at ≡ refusal n m → at ≡ m
+    offset-is : (n m : ℕ) → refusal (number_of r.fault) r.offset ≡ refusal n m → r.offset ≡ m
     offset-is n m h = cc
 
-    go : (v : Verdict) → check s ≡ v → refusal (number_of f) at ≡ answered v → Closed s f at
+    go : (v : Verdict) → check s ≡ v → refusal (number_of r.fault) r.offset ≡ answered v → Closed s r.fault r.offset
     go (refused n before) e a = record {
       before = before;
       refuses = e ∙ ap (λ (m : ℕ). refused m before) (sym (number_is n (size before) a));

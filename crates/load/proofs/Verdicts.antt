@@ -6,6 +6,7 @@ use mathlib.Core.List.{List}
 use native.Mathlib.Omega.{arith}
 use lib.ListN.{length, get_or, drop, replicate, length-replicate, get_or-replicate}
 use lib.Seq.{drop-drop}
+use Rattle.std.specs.Prelude.{Some, None, Result, Ok, Err}
 use borrow.Author.Tests.{ne_eqb, lt-ltb, le-ltb}
 use Rattle.lists.specs.Choice.{choose}
 use Rattle.lists.specs.Search.{some}
@@ -22,17 +23,16 @@ use Rattle.trace.specs.Inner.Told.{refusal, answered, tells}
 use Rattle.trace.specs.Inner.Known.{request_in, Known, Bodied, RecordFault, begun}
 use Rattle.trace.specs.declared.Fault.{Fault}
 use Rattle.trace.specs.declared.Fault.TheVariants.{Long}
-use Rattle.trace.specs.declared.Answer.{Answer}
-use Rattle.trace.specs.declared.Answer.TheVariants.{Refused}
-use Rattle.trace.specs.declared.rules.Finding.TheVariants.{Clean, Faulty}
+use Rattle.trace.specs.declared.Facts.{Facts}
+use Rattle.trace.specs.declared.Refusal.{Refusal}
 use Rattle.trace.specs.declared.progress.Progress.{Progress}
 use Rattle.trace.proofs.Table.{size-item, says-request}
 use Rattle.trace.proofs.Records.{records-nothing, records-faulty, records-whole}
 use Rattle.trace.proofs.Answers.{number-range}
+use Rattle.trace.proofs.Known.{facts-known}
 use Rattle.trace.proofs.Ranges.{section-some, requests-few, engine-below}
 use Rattle.load.specs.Inner.Loaded.{Loaded}
 use Rattle.load.specs.Inner.Loop.{LoadedSoFar, Keeps, reading, Decided, Inside, TurnRight}
-use Rattle.load.specs.declared.turn.Turn.TheVariants.{Stop, Fail, Go}
 use Rattle.load.proofs.Machine.{none-held}
 
 -- the verdict where a whole record stands
@@ -52,16 +52,16 @@ decided-as : {s : List ℕ} {p : Progress} {marks words m : List ℕ} {outcome o
 decided-as r e = record { before = r.before; known = r.known; marks-sized = r.marks-sized; loaded = r.loaded; verdict = r.verdict ∙ e }
 
 module _ {s : List ℕ} {p : Progress} {marks words m : List ℕ} (i : Inside s p marks words m) where
-  pub turn-stop : split (drop p.at s) ≡ nothing → TurnRight s p marks words m Stop
+  pub turn-stop : split (drop p.at s) ≡ nothing → TurnRight s p marks words m (Ok None)
   unfolding check_records
   turn-stop e = decided-as i.so_far (rw (records-nothing (drop p.at s) e))
 
-  pub turn-bad : (f : Fault) → split (drop p.at s) ≡ faulty (number_of f) → TurnRight s p marks words m (Fail f)
+  pub turn-bad : (f : Fault) → split (drop p.at s) ≡ faulty (number_of f) → TurnRight s p marks words m (Err f)
   unfolding check_records
   turn-bad f e = decided-as i.so_far (rw (records-faulty (drop p.at s) (number_of f) e))
 
   module _ {kind : ℕ} {b : List ℕ} (e : split (drop p.at s) ≡ whole kind b) where
-    pub turn-fault : (f : Fault) → RecordFault p marks (item kind b) (Faulty f) → TurnRight s p marks words m (Fail f)
+    pub turn-fault : (f : Fault) → RecordFault p marks (item kind b) (Err f) → TurnRight s p marks words m (Err f)
     turn-fault f found =
         let r = i.so_far in
         let some-fault : number_of f ≢ 0 = λ e. omega (arith, e, (number-range f).0) in
@@ -69,17 +69,17 @@ module _ {s : List ℕ} {p : Progress} {marks words m : List ℕ} (i : Inside s 
         ∙ rw (← (found.is r.before r.known)) (decide-some (number_of f) r.before _ some-fault))
 
     -- a request that is not refused has an engine, and room
-    pub clean-request : {section : ℕ} → Bodied kind section b → RecordFault p marks (item kind b) Clean → kind ≡ 3 →
-        (p.requests < 256) × (get_or b 0 0 < 2 ^ p.k)
+    pub clean-request : Bodied kind b → RecordFault p marks (item kind b) (Ok tt) → kind ≡ 3 →
+        (p.facts.requests < 256) × (get_or b 0 0 < 2 ^ p.facts.k)
     clean-request bodied found k =
         let r = i.so_far in
         let said = says-request b k bodied.right in
         let clean : fault r.before (request (request_in b)) ≡ 0 = rw said.is at (sym (found.is r.before r.known)) in
         (omega (arith, requests-few r.before (request_in b) clean, r.known.requests-is), rw r.known.k-is (engine-below r.before (request_in b) clean))
 
-    pub turn-go : {section : ℕ} → p.at + 4 + length b ≤ length s → Bodied kind section b → RecordFault p marks (item kind b) Clean →
+    pub turn-go : p.at + 4 + length b ≤ length s → Bodied kind b → RecordFault p marks (item kind b) (Ok tt) →
         (p' : Progress) (marks' words' m' : List ℕ) → Keeps (item kind b) p marks words m p' marks' words' m' →
-        TurnRight s p marks' words' m' (Go p')
+        TurnRight s p marks' words' m' (Ok (Some p'))
     unfolding decide
     turn-go inside bodied found p' marks' words' m' keeps =
         let r = i.so_far in
@@ -136,7 +136,7 @@ inside-start s short = record {
 }
 
 -- the ways out
-loaded-as : {s : List ℕ} {r : Answer} {marks words m : List ℕ} (v : Verdict) → check s ≡ v → tells r ≡ answered v
+loaded-as : {s : List ℕ} {r : Result Facts Refusal} {marks words m : List ℕ} (v : Verdict) → check s ≡ v → tells r ≡ answered v
     → length marks ≡ 256 → ((a : ℕ) → a < 256 → get_or marks a 0 ≡ choose (given (words_given (items_of v)) a) 1 0)
     → LoadedSoFar (items_of v) words m → Loaded s r marks words m
 loaded-as v e answer sized marks loaded = record {
@@ -148,17 +148,22 @@ loaded-as v e answer sized marks loaded = record {
   requests-are = rw e loaded.requests-are;
 }
 
-pub loaded-long : (s : List ℕ) → 65536 < length s → Loaded s (Refused Long 0) (replicate 256 0) (replicate 256 0) (replicate machine_size 0)
+pub loaded-long : (s : List ℕ) → 65536 < length s → Loaded s (Err (record { fault = Long; offset = 0 })) (replicate 256 0) (replicate 256 0) (replicate machine_size 0)
 unfolding check size contents some
 loaded-long s long =
     loaded-as (refused 10 none) (simp (lt-ltb 65536 (length s) long)) refl (length-replicate {A = ℕ} 256 0) (λ a low. get_or-replicate 256 a 0 0 low) none-loaded
 
+-- what the places end as is what the caller has
+pub loaded-lent : {s : List ℕ} {r : Result Facts Refusal} {marks words m marks' words' m' : List ℕ} → Loaded s r marks words m →
+    marks' ≡ marks → words' ≡ words → m' ≡ m → Loaded s r marks' words' m'
+loaded-lent l marks-are words_are m-is = rw (marks-are, words_are, m-is) l
+
 module _ {s : List ℕ} {p : Progress} {marks words m : List ℕ} where
-  pub loaded-fail : (f : Fault) → TurnRight s p marks words m (Fail f) → Loaded s (Refused f p.at) marks words m
+  pub loaded-fail : (f : Fault) → TurnRight s p marks words m (Err f) → Loaded s (Err (record { fault = f; offset = p.at })) marks words m
   loaded-fail f r =
       loaded-as (refused (number_of f) r.before) r.verdict (ap (refusal (number_of f)) r.known.at-is) r.marks-sized r.known.marks-are r.loaded
 
-  pub loaded-stop : TurnRight s p marks words m Stop → Loaded s (reading p) marks words m
+  pub loaded-stop : TurnRight s p marks words m (Ok None) → Loaded s (reading p) marks words m
   unfolding ended last_section size
   loaded-stop r = go r.before r.known r.loaded r.verdict
     where
@@ -166,5 +171,5 @@ module _ {s : List ℕ} {p : Progress} {marks words m : List ℕ} where
       go none known loaded e = loaded-as (refused 4 none) e (rw known.section-is) r.marks-sized known.marks-are loaded
       go (after before x) known loaded e =
           loaded-as (accepted (after before x)) e
-          (simp (known.section-is, ne_eqb (section x) 0 (section-some x), known.k-is, known.q-is, known.w-is, known.requests-is, known.acts-at-is))
+          (simp (known.section-is, ne_eqb (section x) 0 (section-some x), facts-known known))
           r.marks-sized known.marks-are loaded

@@ -2,3 +2,4 @@
 pub mod Machine
 pub mod Loaded
 pub mod Loop
+pub mod Places

@@ -5,7 +5,7 @@ use mathlib.Core.Path.{◌≡◌, refl, sym, ◌∙◌, ap}
 use mathlib.Core.Logic.{◌≢◌}
 use mathlib.Core.Bool.{true}
 use mathlib.Core.List.{List, [], ◌∷◌, ◌++◌}
-use mathlib.Core.Option.{some}
+use Rattle.std.proofs.Common.{Some}
 use native.Mathlib.Decide.{ℕ_discrete}
 use native.Mathlib.Omega.{arith}
 use Rattle.lists.specs.Search.{All, nil, cons}
@@ -161,7 +161,7 @@ module _ (S : Setup) (C : Counter S.Word S.Operation) (words : ℕ → S.Word) (
 
         module _ (older : List (Message S)) (f : Message S) (younger : List (Message S)) (o : Operation)
             (parts : st.requests (suc s) to ≡ older ++ (f ∷ younger)) (one : f.address ≡ m.address)
-            (merges : merge f.operation m.operation ≡ some o) where
+            (merges : merge f.operation m.operation ≡ Some o) where
           abbrev now : Message S
           now = record { tag = f.tag; address = f.address; operation = o }
 

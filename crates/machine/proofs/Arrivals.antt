@@ -3,7 +3,7 @@ use Prim.Native.Nat.{ℕ, ◌≤◌}
 use mathlib.Core.Path.{◌≡◌, refl}
 use mathlib.Core.Logic.{◌≢◌}
 use mathlib.Core.List.{List, [], ◌∷◌, ◌++◌}
-use mathlib.Core.Option.{Option, none, some}
+use Rattle.std.proofs.Common.{Option, None, Some}
 use lib.ListN.{length}
 use lib.Dec.{eqb}
 use borrow.Author.Tests.{eqb-true, eqb-false}
@@ -41,7 +41,7 @@ module _ (S : Setup) where
     pub parts : n.queue ≡ older ++ (into ∷ younger)
     pub same : into.address ≡ m.address
     pub last : All (λ (y : Message S). y.address ≢ m.address) younger
-    pub merges : merge into.operation m.operation ≡ some operation
+    pub merges : merge into.operation m.operation ≡ Some operation
     pub node : n' ≡ with_merged S n m older into younger operation
 
   abbrev pub Arrived : Node S → Message S → Arrival S → Type 0
@@ -57,8 +57,8 @@ module _ (S : Setup) where
     combine-is : (older : List (Message S)) (f : Message S) (younger : List (Message S)) → Youngest m.address n.queue (found older f younger)
         → (o : Option Operation) → merge f.operation m.operation ≡ o → Arrived n m (combine S n m older f younger o)
     unfolding combine
-    combine-is older f younger h none e = append-is
-    combine-is older f younger h (some o) e = ltb-either (Arrived n m) (length n.waiting) W
+    combine-is older f younger h None e = append-is
+    combine-is older f younger h (Some o) e = ltb-either (Arrived n m) (length n.waiting) W
         (λ _. record {
           older = older;
           into = f;

@@ -4,7 +4,7 @@ use Prim.Native.Nat.{ℕ, suc, ◌<◌}
 use mathlib.Core.Path.{◌≡◌}
 use mathlib.Core.Logic.{◌≢◌}
 use mathlib.Core.List.{List, [], ◌∷◌, ◌++◌}
-use mathlib.Core.Option.{some}
+use Rattle.std.proofs.Common.{Some}
 use Rattle.lists.specs.Search.{All}
 use Rattle.machine.specs.Setup.{Setup, Message, WaitRecord, Reply, place}
 use Rattle.machine.specs.Arrival.{Node, records_of}
@@ -43,7 +43,7 @@ module _ (S : Setup) where
     merging : (s p : ℕ) (m : Message S) (rest older : List (Message S)) (f : Message S) (younger : List (Message S)) (o : Operation)
         → s < k → st.requests s p ≡ m ∷ rest → st.requests (suc s) (place S m.tag (suc s)) ≡ older ++ (f ∷ younger)
         → f.address ≡ m.address → All (λ (y : Message S). y.address ≢ m.address) younger
-        → merge f.operation m.operation ≡ some o → Move st (after_merge st s p m rest older f younger o)
+        → merge f.operation m.operation ≡ Some o → Move st (after_merge st s p m rest older f younger o)
     serving : (p : ℕ) (m : Message S) (rest : List (Message S)) → st.requests k p ≡ m ∷ rest → Move st (taken S st p m rest)
     -- a second of the oldest reply is answered, one level down on its own path
     answering : (s p : ℕ) (t : Reply S) (rest : List (Reply S)) (older : List (WaitRecord S)) (r : WaitRecord S) (younger : List (WaitRecord S))

@@ -2,32 +2,23 @@
 use Prim.Native.Nat.{ℕ, ◌+◌, ◌^◌, ◌<◌}
 use mathlib.Core.Path.{◌≡◌, refl, ◌∙◌, ap, subst}
 use mathlib.Core.Bool.{true}
-use mathlib.Core.Option.{some}
+use Rattle.std.proofs.Common.{Some}
 use native.Mathlib.Omega.{arith}
 use Rattle.lists.proofs.Tests.{test-clash}
 use Rattle.operation.specs.Operation.{cut, applied, merged}
 use Rattle.operation.specs.declared.Operation.{Operation}
 use Rattle.operation.specs.declared.Operation.TheVariants.{Load, Swap, Add, Mask}
-use Rattle.operation.specs.declared.Merged.{Merged}
-use Rattle.operation.specs.declared.Merged.TheVariants.{One, Never}
 use Rattle.operation.proofs.Laws.{cut_inside, cut_again, load-applied, add-applied, load-then, then-load, add-then-add, merge-applies}
 use Rattle.wiring.specs.Wiring.{module_of}
 use Rattle.wiring.proofs.Laws.{module-below, position-below, position-engine, position-onward}
 use Rattle.machine.specs.Octets.{load_or_add, add_operand, octet_counter}
 use Rattle.machine.specs.Inner.Lawful.{Lawful, LawfulCounter}
-use Rattle.machine.specs.Omega.{omega_network, one_of}
-
-merge-one : (f g h : Operation) → one_of (merged f g) ≡ some h → (x : ℕ) → applied h x ≡ applied g (applied f x)
-merge-one f g h e = go (merged f g) refl e
-  where
-    go : (m : Merged) → merged f g ≡ m → one_of m ≡ some h → (x : ℕ) → applied h x ≡ applied g (applied f x)
-    go (One o) q e = let z : o ≡ h = cc in merge-applies f g h (subst (λ (o : Operation). merged f g ≡ One o) z q)
-    go Never q e = let z : ◌≡◌ {A = ℕ} 0 1 = cc in absurd (omega arith)
+use Rattle.machine.specs.Omega.{omega_network}
 
 pub omega-lawful : (k Q W R : ℕ) (engine_of address_of : ℕ → ℕ) (operation_of : ℕ → Operation) → 0 < k → 0 < Q → ((t : ℕ) → engine_of t < 2 ^ k)
     → Lawful (omega_network k Q W R engine_of address_of operation_of)
 omega-lawful k Q W R engine_of address_of operation_of levels room engines = record {
-  merge-applies = merge-one;
+  merge-applies = merge-applies;
   place-engine = λ t. position-engine k (engine_of t) (module_of k (address_of t)) (engines t) (module-below k (address_of t));
   position-onward = λ e e' a s. position-onward k e e' (module_of k a) s;
   place-below = λ t s. position-below k (engine_of t) (module_of k (address_of t)) s;
@@ -53,10 +44,10 @@ octet-keeps (Mask a b) h x fits = test-clash h refl
 abbrev BringsBoth : Operation → Operation → Operation → Type 0
 BringsBoth f g h = (load_or_add h ≡ true) × (cut (add_operand h) ≡ cut (add_operand f + add_operand g))
 
-both-in : (f g h o : Operation) → one_of (merged f g) ≡ some h → merged f g ≡ One o → BringsBoth f g o → BringsBoth f g h
-both-in f g h o e q z = let is : o ≡ h = cc (ap one_of q) in subst (BringsBoth f g) is z
+both-in : (f g h o : Operation) → merged f g ≡ Some h → merged f g ≡ Some o → BringsBoth f g o → BringsBoth f g h
+both-in f g h o e q z = let is : o ≡ h = cc in subst (BringsBoth f g) is z
 
-octet-merges : (f g h : Operation) → load_or_add f ≡ true → load_or_add g ≡ true → one_of (merged f g) ≡ some h → BringsBoth f g h
+octet-merges : (f g h : Operation) → load_or_add f ≡ true → load_or_add g ≡ true → merged f g ≡ Some h → BringsBoth f g h
 unfolding load_or_add add_operand
 octet-merges Load g h lf lg e = both-in Load g h g e (load-then g) (lg, ap cut (omega arith))
 octet-merges (Swap v) g h lf lg e = test-clash lf refl

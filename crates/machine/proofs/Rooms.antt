@@ -2,7 +2,7 @@
 -- and all else gets shorter.
 use Prim.Native.Nat.{ℕ, zero, suc, ◌-◌, ◌≤◌, ◌<◌}
 use mathlib.Core.Path.{◌≡◌, refl, ap}
-use mathlib.Core.Option.{Option, none, some}
+use Rattle.std.proofs.Common.{Option, None, Some}
 use mathlib.Core.List.{List, [], ◌∷◌, ◌++◌}
 use native.Mathlib.Omega.{arith}
 use lib.ListN.{length, length-append}
@@ -61,8 +61,8 @@ module _ (S : Setup) where
 
       combine-short : (older : List (Message S)) (f : Message S) (younger : List (Message S)) → n.queue ≡ older ++ (f ∷ younger)
           → (o : Option Operation) → Leaves (combine S n m older f younger o)
-      combine-short older f younger is none = append-short
-      combine-short older f younger is (some o) = ltb-either Leaves (length n.waiting) W
+      combine-short older f younger is None = append-short
+      combine-short older f younger is (Some o) = ltb-either Leaves (length n.waiting) W
           (λ h.
           let before = length-append older (f ∷ younger) in
           let after = length-append older (replaced S f o ∷ younger) in

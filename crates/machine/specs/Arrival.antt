@@ -1,6 +1,5 @@
 -- A message arriving at a request queue, and the taking of a wait record: document 01, "Wiring and queues" and "Steps".
-use Rattle.std.specs.Prelude.{ℕ, List, [], ◌∷◌, ◌++◌, length, eqb, ltb}
-use Rattle.std.proofs.Math.Option.{Option, none, some}
+use Rattle.std.specs.Prelude.{ℕ, List, [], ◌∷◌, ◌++◌, length, eqb, ltb, Option, Some, None}
 use Rattle.lists.specs.Choice.{choose}
 use Rattle.lists.specs.Search.{Found, absent, found, first_of, last_of, only}
 use Rattle.machine.specs.Setup.{Setup, Message, WaitRecord}
@@ -36,8 +35,8 @@ module _ (S : Setup) where
 
   -- f is the youngest message with m's address; "If .. the two kinds merge (older first) and the wait buffer has room"
   unfoldable pub combine : Node → Message S → List (Message S) → Message S → List (Message S) → Option Operation → Arrival
-  combine n m older f younger none = append n m
-  combine n m older f younger (some o) =
+  combine n m older f younger None = append n m
+  combine n m older f younger (Some o) =
       choose (ltb (length n.waiting) W)
       (merged (record { queue = older ++ (replaced f o ∷ younger); waiting = n.waiting ++ (recorded f m ∷ []) }))
       (append n m)

@@ -1,17 +1,9 @@
 -- Document 01's network: the setup with its operations and its wiring.
 use Rattle.std.specs.Prelude.{ℕ, ◌^◌}
-use Rattle.std.proofs.Math.Option.{Option, none, some}
 use Rattle.operation.specs.Operation.{applied, merged}
 use Rattle.operation.specs.declared.Operation.{Operation}
-use Rattle.operation.specs.declared.Merged.{Merged}
-use Rattle.operation.specs.declared.Merged.TheVariants.{One, Never}
 use Rattle.wiring.specs.Wiring.{position, module_of}
 use Rattle.machine.specs.Setup.{Setup}
-
--- the merged operation, where there is one
-abbrev pub one_of : Merged → Option Operation
-one_of (One f) = some f
-one_of Never = none
 
 -- k, the rooms Q and W, the number R of requests, and of each tag its engine, address and operation; "256 words of 64 bits",
 -- "N = 2^k", "Word a belongs to module a mod N"
@@ -20,7 +12,7 @@ omega_network k Q W R engine_of address_of operation_of = record {
   Word = ℕ;
   Operation = Operation;
   apply = applied;
-  merge = λ f g. one_of (merged f g);
+  merge = merged;
   k = k;
   N = 2 ^ k;
   Q = Q;

@@ -1,7 +1,6 @@
 -- What the machine is built over: words and operations, a path for each request, the rooms, and the requests of a trace.
 -- Every definition and every theorem of this crate holds for any such setup; Omega.antt gives document 01's.
-use Rattle.std.specs.Prelude.{ℕ}
-use Rattle.std.proofs.Math.Option.{Option}
+use Rattle.std.specs.Prelude.{ℕ, Option}
 
 pub record Setup : Type 1 where
   -- what a word holds; what a request does to it, "store f(old)"

@@ -22,9 +22,8 @@ use Rattle.model.specs.Inner.Give.{counts_in, MayGive, Gives, Leaves}
 use Rattle.model.specs.declared.Counts.{Counts}
 
 module _ {items : Items} {m memory : List ℕ} (r : RanTo items m memory) where
-  pub may-give : (before : Lent) → room_for (length (requests_of items)) before ≡ true → MayGive m memory before
+  pub may-give : (before : Lent) → room_for (length (requests_of items)) before ≡ true → MayGive m before
   may-give before room = record {
-    memory-sized = r.words-sized;
     requests-few = omega (arith, r.count-is, r.requests-few);
     order-few = omega (arith, r.count-is, r.order-few);
     room = subst (λ (n : ℕ). room_for n before ≡ true) (sym r.count-is) room;
@@ -54,7 +53,7 @@ room-parts n m h =
     (leb-true n (length m.replies) a.0, leb-true n (length m.marks) b.0, leb-true n (length m.order) d.0, words)
 
 -- each of the four fits: the first two in the number of requests that the machine tells
-module _ {m memory : List ℕ} {before : Lent} (g : MayGive m memory before) where
+module _ {m : List ℕ} {before : Lent} (g : MayGive m before) where
   room : ((view m).fixed.count ≤ length before.replies) × ((view m).fixed.count ≤ length before.marks) × ((view m).fixed.count ≤ length before.order)
       × (256 ≤ length before.words)
   room = room-parts (view m).fixed.count before g.room
@@ -68,8 +67,8 @@ module _ {m memory : List ℕ} {before : Lent} (g : MayGive m memory before) whe
   pub order-fits : (length (view m).order ≤ 256) × (length (view m).order ≤ length before.order)
   order-fits = (omega (arith, g.order-few, g.requests-few), omega (arith, g.order-few, room.2))
 
-  pub words-fit : (length memory ≡ 256) × (256 ≤ length before.words)
-  words-fit = (g.memory-sized, room.3)
+  pub words-fit : 256 ≤ length before.words
+  words-fit = room.3
 
 -- all four
 pub copied : {m memory : List ℕ} {before : Lent} {n : ℕ} {c : Counts} {replies marks order words : List ℕ} → n ≡ (view m).fixed.count → c ≡ counts_in (view m) →

@@ -1,7 +1,6 @@
 -- What `step` asks for and promises, by what it is.
 use Prim.Native.Nat.{ℕ, ◌≤◌, ◌<◌}
 use mathlib.Core.Path.{◌≡◌, sym, ◌∙◌}
-use mathlib.Core.Logic.{◌≢◌}
 use mathlib.Core.Bool.{Bool, true, false}
 use mathlib.Core.List.{List}
 use native.Mathlib.Omega.{arith}
@@ -9,11 +8,11 @@ use lib.ListN.{length}
 use borrow.Author.Tests.{lt-ltb, le-ltb}
 use Rattle.lists.proofs.Tests.{eqb-some}
 use Rattle.event.specs.Event.{Event, level_fits}
-use Rattle.event.proofs.Steps.{issue-level, forward-level, module-level, return-level, collect-level, step-named, level-most}
+use Rattle.event.proofs.Steps.{issue-level, forward-level, module-level, return-level, collect-level, level-most}
 use Rattle.store.specs.Inner.Memory.{view}
 use Rattle.shown.specs.Inner.Reached.{rests_at, single}
 use Rattle.shown.proofs.Rests.{rests-moves}
-use Rattle.moves.specs.Inner.Moves.{words_in, Ready, ReadyWith, Moves, MovesWith}
+use Rattle.moves.specs.Inner.Moves.{words_in, ReadyWith, Moves, MovesWith}
 
 -- ---- an event that names a step
 pub record Named (m words : List ℕ) (what level position : ℕ) : Type 0 where
@@ -21,19 +20,10 @@ pub record Named (m words : List ℕ) (what level position : ℕ) : Type 0 where
   pub fits : level_fits (view m).fixed.k what level ≡ true
 
 module _ {m words : List ℕ} {what level position : ℕ} (N : Named m words what level position) where
-  -- whatever the words
-  pub ready-any : Ready m
-  ready-any = record { sized = N.ready.sized; network = N.ready.network; words = words_in words; stands = N.ready.stands }
-
   pub level-small : level < 5
   level-small =
       let few : (view m).fixed.k ≤ 4 = rw N.ready.stands.fits.k-is N.ready.stands.fits.ranges.k-most in
       omega (arith, level-most (view m).fixed.k what level N.fits)
-
-  -- which kind it is where it is none of the first four
-  pub last-kind : what ≢ 0 → what ≢ 1 → what ≢ 2 → what ≢ 3 → what ≡ 4
-  last-kind n0 n1 n2 n3 =
-      step-named (view m).fixed.k what level N.fits (λ e. absurd (n0 e)) (λ e. absurd (n1 e)) (λ e. absurd (n2 e)) (λ e. absurd (n3 e)) (λ e. e)
 
   -- ---- the levels of a kind
   level-0 : what ≡ 0 → level ≡ 0
@@ -69,14 +59,8 @@ module _ {m words : List ℕ} {what level position : ℕ} (N : Named m words wha
     pub to-issue : r ≡ false → what ≡ 0 → 0 < length ((view m).requests 0 position)
     to-issue e is = rw (level-0 is) at (has-request e (omega (arith, is)))
 
-    pub to-forward : r ≡ false → what ≡ 1 → 0 < length ((view m).requests level position)
-    to-forward e is = has-request e (omega (arith, is))
-
     pub to-serve : r ≡ false → what ≡ 2 → 0 < length ((view m).requests (view m).fixed.k position)
     to-serve e is = rw (level-2 is) at (has-request e (omega (arith, is)))
-
-    pub to-return : r ≡ false → what ≡ 3 → 0 < length ((view m).replies level position)
-    to-return e is = has-reply e (omega (arith, is))
 
     pub to-collect : r ≡ false → what ≡ 4 → 0 < length ((view m).replies 0 position)
     to-collect e is = rw (level-4 is) at (has-reply e (omega (arith, is)))
@@ -89,15 +73,9 @@ module _ {m words : List ℕ} {what level position : ℕ} (N : Named m words wha
   pub issued : what ≡ 0 → {m' : List ℕ} → Moves (single 0 0 position) m m' → MovesWith (single what level position) m words m' words
   issued is M = rw (is, level-0 is) (keeps-words M)
 
-  pub forwarded : what ≡ 1 → {m' : List ℕ} → Moves (single 1 level position) m m' → MovesWith (single what level position) m words m' words
-  forwarded is M = rw is (keeps-words M)
-
   pub served : what ≡ 2 → {m' words' : List ℕ} → MovesWith (single 2 (view m).fixed.k position) m words m' words' →
       MovesWith (single what level position) m words m' words'
   served is M = rw (is, level-2 is) M
-
-  pub returned : what ≡ 3 → {m' : List ℕ} → Moves (single 3 level position) m m' → MovesWith (single what level position) m words m' words
-  returned is M = rw is (keeps-words M)
 
   pub collected : what ≡ 4 → {m' : List ℕ} → Moves (single 4 0 position) m m' → MovesWith (single what level position) m words m' words
   collected is M = rw (is, level-4 is) (keeps-words M)

@@ -3,7 +3,7 @@ use Prim.Native.Nat.{ℕ, suc, ◌+◌, ◌-◌, ◌≤◌, ◌<◌}
 use mathlib.Core.Path.{◌≡◌, refl, sym, ◌∙◌, ap, ap₂, subst}
 use mathlib.Core.Logic.{◌≢◌}
 use mathlib.Core.List.{List, [], ◌∷◌, ◌++◌, map}
-use mathlib.Core.Option.{Option, none, some}
+use Rattle.std.proofs.Common.{Option, None, Some}
 use native.Mathlib.Omega.{arith}
 use lib.ListN.{length, length-append, length-map}
 use borrow.Author.Tests.{lt-ltb, le-ltb}
@@ -19,11 +19,9 @@ use Rattle.lists.proofs.Maps.{map-append, count_map}
 use Rattle.words.specs.Inner.Digits.{byte_in}
 use Rattle.operation.specs.Operation as operations
 use Rattle.operation.specs.declared.Operation.{Operation}
-use Rattle.operation.specs.declared.Merged.TheVariants.{One, Never}
 use Rattle.queue.specs.Inner.Queue.{tags_of, pair_in, pairs_of, HeldTags, HeldPairs}
 use Rattle.queue.specs.declared.Tags.{Tags}
 use Rattle.queue.specs.declared.Pairs.{Pairs}
-use Rattle.queue.specs.declared.Place.TheVariants.{At}
 use Rattle.view.specs.Inner.View.{View, with_carried, operation_in}
 use Rattle.store.specs.Inner.Layout.{size}
 use Rattle.store.specs.Inner.Memory.{view, Becomes}
@@ -71,11 +69,11 @@ module _ (x : Network) (v : View) (n : Node) where
   length-waiting : length (map (record_of x v) (pairs_of n.waiting)) ≡ n.waiting.len
   length-waiting = length-map (pairs_of n.waiting) (record_of x v) ∙ length-below n.waiting.len (pair_in n.waiting.firsts n.waiting.seconds)
 
-module _ (n : Node) (t q : ℕ) (held : HeldNode n) where
-  pub append-room : n.queue.len < q → (queue : Tags) → tags_of queue ≡ tags_of n.queue ++ (t ∷ []) → HeldTags queue →
+module _ {n : Node} {t q : ℕ} (held : HeldNode n) where
+  pub append-room : n.queue.len < q → {queue : Tags} → tags_of queue ≡ tags_of n.queue ++ (t ∷ []) → HeldTags queue →
       AppendedTo n t q (record { node = record { queue = queue; waiting = n.waiting }; outcome = Appended })
   unfolding machine.append
-  append-room room queue e h = record {
+  append-room room {queue} e h = record {
     held = record { queue = h; waiting = held.waiting };
     appends = λ x v Q. rw (length-queue x v n, lt-ltb _ _ (subst (λ r. n.queue.len < r) (sym Q) room), e, map-append);
     unmerged = appended-unmerged;
@@ -110,8 +108,8 @@ module _ (x : Network) (v : View) (n : Node) (t : ℕ) where
     where
       combined : (older : List (Message (setup x))) (f : Message (setup x)) (younger : List (Message (setup x))) (o : Option Operation) →
           machine.combine (setup x) (node_in x v n) (message_of x v t) older f younger o ≡ machine.append (setup x) (node_in x v n) (message_of x v t)
-      combined older f younger none = refl
-      combined older f younger (some o) = rw (length-waiting x v n, le-ltb _ _ full)
+      combined older f younger None = refl
+      combined older f younger (Some o) = rw (length-waiting x v n, le-ltb _ _ full)
 
       met : (f : Found (Message (setup x))) →
           machine.meet (setup x) (node_in x v n) (message_of x v t) f ≡ machine.append (setup x) (node_in x v n) (message_of x v t)
@@ -124,11 +122,11 @@ module _ (x : Network) (v : View) (n : Node) (t : ℕ) where
 
   module _ (older : List ℕ) (u : ℕ) (younger : List ℕ)
       (f : found older u younger ≡ youngest_tag v.fixed.address (v.fixed.address t) (tags_of n.queue)) where
-    arrive-never : Never ≡ operations.merged (operation_in (v.carried u)) (operation_in (v.carried t)) → Appends
+    arrive-never : None ≡ operations.merged (operation_in (v.carried u)) (operation_in (v.carried t)) → Appends
     unfolding machine.arrive machine.meet machine.combine
     arrive-never e = rw (youngest-message, ← f, ← e)
 
-    arrive-combined : (o : Operation) → One o ≡ operations.merged (operation_in (v.carried u)) (operation_in (v.carried t)) → n.waiting.len < x.W →
+    arrive-combined : (o : Operation) → Some o ≡ operations.merged (operation_in (v.carried u)) (operation_in (v.carried t)) → n.waiting.len < x.W →
         Arrives (machine.merged (record {
           queue = map (message_of x v) older ++ (record { tag = u; address = v.fixed.address u; operation = o } ∷ map (message_of x v) younger);
           waiting = map (record_of x v) (pairs_of n.waiting) ++ (record { first = u; second = t; operation = operation_in (v.carried u) } ∷ []);
@@ -137,8 +135,8 @@ module _ (x : Network) (v : View) (n : Node) (t : ℕ) where
     arrive-combined o e r = rw (youngest-message, ← f, ← e, length-waiting x v n, lt-ltb _ _ r)
 
 -- ---- what `arrive` promises, by the way taken
-module _ (n : Node) (m : List ℕ) (t q w : ℕ) (sized : length m ≡ size) (r : Arrived) (a : AppendedTo n t q r) where
-  appended-arrives : ((x : Network) → x.W ≡ w → Appends x (view m) n t) → ArrivedAt n (view m) t q w m r
+module _ {n : Node} {m : List ℕ} {t q : ℕ} (sized : length m ≡ size) {r : Arrived} (a : AppendedTo n t q r) where
+  appended-arrives : {w : ℕ} → ((x : Network) → x.W ≡ w → Appends x (view m) n t) → ArrivedAt n (view m) t q w m r
   appended-arrives h = record {
     sized = sized;
     held = a.held;
@@ -153,10 +151,10 @@ module _ (n : Node) (m : List ℕ) (t q w : ℕ) (sized : length m ≡ size) (r 
     refusal = a.refusal;
   }
 
-  pub full-arrives : w ≤ n.waiting.len → ArrivedAt n (view m) t q w m r
-  full-arrives full = appended-arrives (λ x W. arrive-full x (view m) n t (subst (λ r. r ≤ n.waiting.len) (sym W) full))
+  pub full-arrives : (w : ℕ) → w ≤ n.waiting.len → ArrivedAt n (view m) t q w m r
+  full-arrives w full = appended-arrives (λ x W. arrive-full x (view m) n t (subst (λ r. r ≤ n.waiting.len) (sym W) full))
 
-  pub alone-arrives : absent ≡ youngest_tag (view m).fixed.address ((view m).fixed.address t) (tags_of n.queue) → ArrivedAt n (view m) t q w m r
+  pub alone-arrives : {w : ℕ} → absent ≡ youngest_tag (view m).fixed.address ((view m).fixed.address t) (tags_of n.queue) → ArrivedAt n (view m) t q w m r
   alone-arrives e = appended-arrives (λ x W. arrive-alone x (view m) n t e)
 
 -- ---- the merge: u's operation is the merged one, and t takes the one that u had
@@ -229,10 +227,13 @@ module _ (n : Node) (v : View) (t u : ℕ) (older younger : List ℕ) (o : Opera
   waiting-after x waiting longer = rw (longer, map-append, records-stay x, arriving-carries)
 
 -- ---- the tag u is read where the youngest match is found, and what it and t carry is read
-module _ (n : Node) (m : List ℕ) (t q w i u : ℕ)
-    (place : found_in n.queue (At i) ≡ youngest_tag (view m).fixed.address ((view m).fixed.address t) (tags_of n.queue))
-    (read : u ≡ byte_in n.queue.items i)
-    (before arriving : Operation) (before-is : before ≡ operation_in ((view m).carried u)) (arriving-is : arriving ≡ operation_in ((view m).carried t)) where
+pub record Met (n : Node) (m : List ℕ) (t i u : ℕ) (before arriving : Operation) : Type 0 where
+  pub place : found_in n.queue (Some i) ≡ youngest_tag (view m).fixed.address ((view m).fixed.address t) (tags_of n.queue)
+  pub read : u ≡ byte_in n.queue.items i
+  pub before-is : before ≡ operation_in ((view m).carried u)
+  pub arriving-is : arriving ≡ operation_in ((view m).carried t)
+
+module _ {n : Node} {m : List ℕ} {t i u : ℕ} {before arriving : Operation} (M : Met n m t i u before arriving) where
   older : List ℕ
   older = down_from (n.queue.len - suc i) (λ j. byte_in n.queue.items (suc i + j))
 
@@ -241,29 +242,29 @@ module _ (n : Node) (m : List ℕ) (t q w i u : ℕ)
 
   found-is : found older u younger ≡ youngest_tag (view m).fixed.address ((view m).fixed.address t) (tags_of n.queue)
   unfolding older younger
-  found-is = rw read place
+  found-is = rw M.read M.place
 
   queue-is : tags_of n.queue ≡ older ++ (u ∷ younger)
   queue-is = youngest-splits (view m).fixed.address ((view m).fixed.address t) (tags_of n.queue) found-is
 
-  pub never-arrives : length m ≡ size → (r : Arrived) → AppendedTo n t q r → Never ≡ operations.merged before arriving → ArrivedAt n (view m) t q w m r
-  never-arrives sized r a e =
-      appended-arrives n m t q w sized r a (λ x W. arrive-never x (view m) n t older u younger found-is (rw (before-is, arriving-is) at e))
+  pub never-arrives : {q w : ℕ} {r : Arrived} → length m ≡ size → AppendedTo n t q r → None ≡ operations.merged before arriving → ArrivedAt n (view m) t q w m r
+  never-arrives sized a e =
+      appended-arrives sized a (λ x W. arrive-never x (view m) n t older u younger found-is (rw (M.before-is, M.arriving-is) at e))
 
-  module _ (held : HeldNode n) (apart : ApartAt t (tags_of n.queue) (pairs_of n.waiting)) (room : n.waiting.len < w)
-      (o : Operation) (e : One o ≡ operations.merged before arriving)
-      (m₁ m₂ : List ℕ) (b₁ : Becomes m₁ (with_carried (view m) u (operations.words_of o))) (b₂ : Becomes m₂ (with_carried (view m₁) t (operations.words_of before)))
-      (waiting : Pairs) (longer : pairs_of waiting ≡ pairs_of n.waiting ++ (record { first = u; second = t } ∷ [])) (fits : HeldPairs waiting) where
+  module _ (held : HeldNode n) (apart : ApartAt t (tags_of n.queue) (pairs_of n.waiting)) (w : ℕ) (room : n.waiting.len < w)
+      {o : Operation} (e : Some o ≡ operations.merged before arriving)
+      {m₁ m₂ : List ℕ} (b₁ : Becomes m₁ (with_carried (view m) u (operations.words_of o))) (b₂ : Becomes m₂ (with_carried (view m₁) t (operations.words_of before))) where
     holds : view m₂ ≡ exchanged (view m) u t o
-    holds = b₂.holds ∙ ap₂ (λ (v : View) (f : Operation). replaced v t f) b₁.holds before-is
+    holds = b₂.holds ∙ ap₂ (λ (v : View) (f : Operation). replaced v t f) b₁.holds M.before-is
 
-    pub merged-arrives : ArrivedAt n (view m) t q w m₂ (record { node = record { queue = n.queue; waiting = waiting }; outcome = Merged })
-    merged-arrives = record {
+    pub merged-arrives : {q : ℕ} {waiting : Pairs} → pairs_of waiting ≡ pairs_of n.waiting ++ (record { first = u; second = t } ∷ []) → HeldPairs waiting →
+        ArrivedAt n (view m) t q w m₂ (record { node = record { queue = n.queue; waiting = waiting }; outcome = Merged })
+    merged-arrives {waiting = waiting} longer fits = record {
       sized = b₂.sized;
       held = record { queue = held.queue; waiting = fits };
       arrives = λ x Q W.
           rw (holds, queue-after n (view m) t u older younger o apart queue-is x, waiting-after n (view m) t u older younger o apart queue-is x waiting longer)
-          (arrive-combined x (view m) n t older u younger found-is o (rw (before-is, arriving-is) at e) (subst (λ r. n.waiting.len < r) (sym W) room));
+          (arrive-combined x (view m) n t older u younger found-is o (rw (M.before-is, M.arriving-is) at e) (subst (λ r. n.waiting.len < r) (sym W) room));
       changes = rw holds;
       unmerged = λ z. absurd (z refl);
       others = λ a d z. ap (λ (v : View). v.carried a) holds ∙ other-carries n (view m) t u older younger o apart queue-is a d z;

@@ -1,9 +1,7 @@
 -- The laws of the add, of merging, and of codes and operands: document 01, "Operations".
-use Rattle.std.proofs.Common.{◌≡◌, ℕ, ◌+◌, ◌^◌, ◌<◌, refl, ap, ◌∙◌, subst, add_comm, arith}
+use Rattle.std.proofs.Common.{◌≡◌, ℕ, ◌+◌, ◌^◌, ◌<◌, refl, ap, ◌∙◌, subst, add_comm, arith, Option, Some, None}
 use Rattle.operation.specs.declared.Operation.{Operation}
 use Rattle.operation.specs.declared.Operation.TheVariants.{Load, Swap, Add, Mask}
-use Rattle.operation.specs.declared.Merged.{Merged}
-use Rattle.operation.specs.declared.Merged.TheVariants.{One, Never}
 use Rattle.operation.specs.Operation.{cut, sum, applied, merged, operation_of, code_of, first_operand, second_operand}
 use Rattle.operation.proofs.Bits.{and_assoc, xor_assoc, and_xor}
 
@@ -47,20 +45,20 @@ code-byte (Mask a b) = omega arith
 
 -- ---- merged
 -- "add then mask, and mask then add, do not merge, even where an operand makes one of them harmless"
-pub add-mask-never : (a b c : ℕ) → merged (Add a) (Mask b c) ≡ Never
+pub add-mask-never : (a b c : ℕ) → merged (Add a) (Mask b c) ≡ None
 unfolding merged
 add-mask-never a b c = refl
 
-pub mask-add-never : (a b c : ℕ) → merged (Mask a b) (Add c) ≡ Never
+pub mask-add-never : (a b c : ℕ) → merged (Mask a b) (Add c) ≡ None
 unfolding merged
 mask-add-never a b c = refl
 
 -- "load then g is g; f then load is f"
-pub load-then : (g : Operation) → merged Load g ≡ One g
+pub load-then : (g : Operation) → merged Load g ≡ Some g
 unfolding merged
 load-then g = refl
 
-pub then-load : (f : Operation) → merged f Load ≡ One f
+pub then-load : (f : Operation) → merged f Load ≡ Some f
 unfolding merged applied
 then-load Load = refl
 then-load (Swap v) = refl
@@ -68,14 +66,14 @@ then-load (Add a) = refl
 then-load (Mask a b) = refl
 
 -- "add a then add b is add of a + b modulo 2^64"
-pub add-then-add : (a b : ℕ) → merged (Add a) (Add b) ≡ One (Add (cut (a + b)))
+pub add-then-add : (a b : ℕ) → merged (Add a) (Add b) ≡ Some (Add (cut (a + b)))
 unfolding merged sum
 add-then-add a b = refl
 
 -- ---- "Wherever two merge, the merged operation applied to any x gives g(f(x))."
-abbrev Applies : Operation → Operation → Merged → Type 0
-Applies f g Never = Unit {0}
-Applies f g (One h) = (x : ℕ) → applied h x ≡ applied g (applied f x)
+abbrev Applies : Operation → Operation → Option Operation → Type 0
+Applies f g None = Unit {0}
+Applies f g (Some h) = (x : ℕ) → applied h x ≡ applied g (applied f x)
 
 applies : (f g : Operation) → Applies f g (merged f g)
 unfolding merged applied
@@ -90,7 +88,7 @@ applies (Mask a b) (Swap v) = λ x. refl
 applies (Mask a b) (Add c) = tt
 applies (Mask a b) (Mask c d) = λ x. simp (and_xor, and_assoc, xor_assoc)
 
-pub merge-applies : (f g h : Operation) → merged f g ≡ One h → (x : ℕ) → applied h x ≡ applied g (applied f x)
+pub merge-applies : (f g h : Operation) → merged f g ≡ Some h → (x : ℕ) → applied h x ≡ applied g (applied f x)
 merge-applies f g h e = subst (Applies f g) e (applies f g)
 
 -- ---- codes and operands name the operation

@@ -1,11 +1,9 @@
 -- The four operations, what two of them become where they merge, and their codes and operands: document 01, "Operations".
-use Rattle.std.specs.Prelude.{ℕ, ◌+◌, ◌%◌, ◌^◌, Bool, ◌==◌, bit_and, bit_xor, nat_lt}
+use Rattle.std.specs.Prelude.{ℕ, ◌+◌, ◌%◌, ◌^◌, Bool, ◌==◌, bit_and, bit_xor, nat_lt, Option, Some, None}
 use Rattle.lists.specs.Choice.{choose, both}
 use Rattle.operation.specs.declared.Operation.{Operation}
 use Rattle.operation.specs.declared.Operation.TheVariants.{Load, Swap, Add, Mask}
 use Rattle.operation.specs.declared.Words.{Words}
-use Rattle.operation.specs.declared.Merged.{Merged}
-use Rattle.operation.specs.declared.Merged.TheVariants.{One, Never}
 
 -- "modulo 2^64": what a word keeps of a number
 unfoldable pub cut : ℕ → ℕ
@@ -24,17 +22,17 @@ applied (Mask a b) x = bit_xor (bit_and x a) b
 
 -- "load then g is g; f then load is f"; "anything then swap v is swap v"; "swap v then g is swap of g(v)"; "add a then add b is add of a + b modulo 2^64";
 -- "mask (a, b) then mask (c, d) is mask (a and c, (b and c) xor d)"; "add then mask, and mask then add, do not merge"
-unfoldable pub merged : Operation → Operation → Merged
-merged Load g = One g
-merged (Swap v) g = One (Swap (applied g v))
-merged (Add a) Load = One (Add a)
-merged (Add a) (Swap v) = One (Swap v)
-merged (Add a) (Add b) = One (Add (sum a b))
-merged (Add a) (Mask c d) = Never
-merged (Mask a b) Load = One (Mask a b)
-merged (Mask a b) (Swap v) = One (Swap v)
-merged (Mask a b) (Add c) = Never
-merged (Mask a b) (Mask c d) = One (Mask (bit_and a c) (bit_xor (bit_and b c) d))
+unfoldable pub merged : Operation → Operation → Option Operation
+merged Load g = Some g
+merged (Swap v) g = Some (Swap (applied g v))
+merged (Add a) Load = Some (Add a)
+merged (Add a) (Swap v) = Some (Swap v)
+merged (Add a) (Add b) = Some (Add (sum a b))
+merged (Add a) (Mask c d) = None
+merged (Mask a b) Load = Some (Mask a b)
+merged (Mask a b) (Swap v) = Some (Swap v)
+merged (Mask a b) (Add c) = None
+merged (Mask a b) (Mask c d) = Some (Mask (bit_and a c) (bit_xor (bit_and b c) d))
 
 -- "0 load", "1 swap: f(x) = first", "2 add: f(x) = x + first", "3 mask: f(x) = (x and first) xor second"
 unfoldable pub operation_of : ℕ → ℕ → ℕ → Operation

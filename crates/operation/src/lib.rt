@@ -4,7 +4,7 @@
 ghost use Rattle.std.specs.Prelude.{◌≡◌};
 ghost use Rattle.operation.specs.Operation.{sum, applied, merged, operation_of, words_of, operands_fit};
 
-#[derive(Clone, Copy)]
+#[derive(Clone, Copy, Debug, PartialEq, Eq)]
 pub enum Operation {
     Load,
     Swap(u64),
@@ -12,28 +12,59 @@ pub enum Operation {
     Mask(u64, u64),
 }
 
-#[derive(Clone, Copy)]
-pub enum Merged {
-    One(Operation),
-    Never,
-}
-
-// An operation as a request record gives it.
-#[derive(Clone, Copy)]
+// An operation as a request record gives it: the code is a number, as in the record and in the machine's words.
+#[derive(Clone, Copy, Debug, PartialEq, Eq)]
 pub struct Words {
     pub code: u64,
     pub first: u64,
     pub second: u64,
 }
 
+// The operation of a code and its operands.
+impl From<Words> for Operation {
+    ghost from_gives = { λ w f. f ≡ operation_of w.code w.first w.second };
+
+    #[tactic(auto, unfolding(crate::specs::Operation::operation_of))]
+    fn from(w: Words) -> Operation {
+        match w.code {
+            0 => Operation::Load,
+            1 => Operation::Swap(w.first),
+            2 => Operation::Add(w.first),
+            _ => Operation::Mask(w.first, w.second),
+        }
+    }
+}
+
+// The code of an operation and its operands.
+impl From<Operation> for Words {
+    ghost from_gives = { λ f w. w ≡ words_of f };
+
+    #[tactic(auto, unfolding(crate::specs::Operation::code_of, crate::specs::Operation::first_operand, crate::specs::Operation::second_operand))]
+    fn from(f: Operation) -> Words {
+        let (code, first, second) = match f {
+            Operation::Load => (0, 0, 0),
+            Operation::Swap(v) => (1, v, 0),
+            Operation::Add(a) => (2, a, 0),
+            Operation::Mask(a, b) => (3, a, b),
+        };
+        Words {
+            code,
+            first,
+            second,
+        }
+    }
+}
+
 // The add of every operation, in application to a word and in merging.
+#[tactic(auto, unfolding(crate::specs::Operation::sum, crate::specs::Operation::cut))]
 fn plus(x: u64, y: u64) -> u64
     ensures { result ≡ sum x y }
 {
-    std::num::wrapping_add_u64(x, y)
+    x.wrapping_add(y)
 }
 
 // f(x).
+#[tactic(auto, unfolding(crate::specs::Operation::applied))]
 pub fn apply(f: Operation, x: u64) -> u64
     ensures { result ≡ applied f x }
 {
@@ -46,79 +77,32 @@ pub fn apply(f: Operation, x: u64) -> u64
 }
 
 // f, then g, as one operation where the two merge.
-pub fn merge(f: Operation, g: Operation) -> Merged
+#[tactic(auto, unfolding(crate::specs::Operation::merged))]
+pub fn merge(f: Operation, g: Operation) -> Option<Operation>
     ensures { result ≡ merged f g }
 {
-    match f {
-        Operation::Load => Merged::One(g),
-        Operation::Swap(v) => Merged::One(Operation::Swap(apply(g, v))),
-        Operation::Add(a) => match g {
-            Operation::Load => Merged::One(f),
-            Operation::Swap(_) => Merged::One(g),
-            Operation::Add(b) => Merged::One(Operation::Add(plus(a, b))),
-            Operation::Mask(_, _) => Merged::Never,
-        },
-        Operation::Mask(a, b) => match g {
-            Operation::Load => Merged::One(f),
-            Operation::Swap(_) => Merged::One(g),
-            Operation::Add(_) => Merged::Never,
-            Operation::Mask(c, d) => Merged::One(Operation::Mask(a & c, (b & c) ^ d)),
-        },
+    match (f, g) {
+        (Operation::Load, _) => Some(g),
+        (Operation::Swap(v), _) => Some(Operation::Swap(apply(g, v))),
+        (_, Operation::Load) => Some(f),
+        (_, Operation::Swap(_)) => Some(g),
+        (Operation::Add(a), Operation::Add(b)) => Some(Operation::Add(plus(a, b))),
+        (Operation::Mask(a, b), Operation::Mask(c, d)) => {
+            Some(Operation::Mask(a & c, (b & c) ^ d))
+        }
+        (Operation::Add(_), Operation::Mask(_, _)) => None,
+        (Operation::Mask(_, _), Operation::Add(_)) => None,
     }
 }
 
-// The operation of a code and its operands.
-pub fn operation_of(code: u64, first: u64, second: u64) -> Operation
-    ensures { result ≡ operation_of code first second }
-{
-    match code {
-        0 => Operation::Load,
-        1 => Operation::Swap(first),
-        2 => Operation::Add(first),
-        _ => Operation::Mask(first, second),
-    }
-}
-
-// The code of an operation and its operands.
-pub fn words_of(f: Operation) -> Words
-    ensures { result ≡ words_of f }
-{
-    match f {
-        Operation::Load => Words {
-            code: 0,
-            first: 0,
-            second: 0,
-        },
-        Operation::Swap(v) => Words {
-            code: 1,
-            first: v,
-            second: 0,
-        },
-        Operation::Add(a) => Words {
-            code: 2,
-            first: a,
-            second: 0,
-        },
-        Operation::Mask(a, b) => Words {
-            code: 3,
-            first: a,
-            second: b,
-        },
-    }
-}
-
-// Whether there is such an operation, and each operand that must be zero is.
+// Whether there is such an operation, and each operand that must be zero is. It is asked of any byte, so the code is one.
+#[tactic(auto, unfolding(crate::specs::Operation::operands_fit))]
 pub fn operands_fit(code: u8, first: u64, second: u64) -> bool
     ensures { result ≡ operands_fit code first second }
 {
-    if code == 0 {
-        if first != 0 {
-            return false;
-        }
-        return second == 0;
+    match code {
+        0 => first == 0 && second == 0,
+        1 | 2 => second == 0,
+        _ => code == 3,
     }
-    if code < 3 {
-        return second == 0;
-    }
-    code == 3
 }

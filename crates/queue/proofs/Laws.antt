@@ -1,7 +1,8 @@
 -- The words of a queue and of a wait buffer as lists: one more, one less, the oldest, and the oldest with a tag.
 use Prim.Native.Nat.{ℕ, suc, ◌+◌, ◌-◌, ◌≤◌, ◌<◌}
 use mathlib.Core.Path.{◌≡◌, sym, ◌∙◌, ap, ap₂}
-use mathlib.Core.Bool.{Bool, false}
+use mathlib.Core.Logic.{◌≢◌}
+use mathlib.Core.Bool.{Bool}
 use mathlib.Core.List.{List, [], ◌∷◌, ◌++◌}
 use native.Mathlib.Numerals.{add-one}
 use native.Mathlib.Omega.{arith}
@@ -14,7 +15,7 @@ use Rattle.lists.specs.Inner.Pair.{Pair}
 use Rattle.lists.proofs.Below.{get_or-below, below-same, below-without, first_of-below, first_of-below-none, get_or-down, down-push}
 use Rattle.words.specs.Inner.Digits.{byte_in, Pushed, Topped, Without, PlaceOf}
 use Rattle.queue.specs.Inner.Queue.{tags_in, pair_in, pairs_in, no_pair, found_at}
-use Rattle.queue.specs.declared.Place.TheVariants.{At, Nowhere}
+use Rattle.std.proofs.Common.{Option, None, Some}
 
 -- ---- tags
 
@@ -51,19 +52,19 @@ module _ (firsts seconds n : ℕ) where
       below-without n (pair_in firsts seconds) (pair_in firsts' seconds') i l
       (λ j m. pair_is (h.below j m) (h'.below j m)) (λ j m. pair_is (h.above j m) (h'.above j m))
 
-  -- "The oldest record with the first tag": at the lowest place that has it, of those in use
-  module _ (t i : ℕ) (h : PlaceOf 8 firsts t i) (small : n ≤ 8) where
-    below : (j : ℕ) → j < i → eqb (byte_in firsts j) t ≡ false
-    below j l = ne_eqb (byte_in firsts j) t (h.below j l)
+  -- "The oldest record with the first tag"
+  module _ (t : ℕ) (small : n ≤ 8) where
+    abbrev Found : Option ℕ → Type 0
+    Found o = found_at (pairs_in firsts seconds n) o ≡ first_of (first_is t) (pairs_in firsts seconds n)
 
-    pub find_at : i < n → found_at (pairs_in firsts seconds n) (At i) ≡ first_of (first_is t) (pairs_in firsts seconds n)
-    find_at l =
+    -- at the lowest place that has it, of those in use
+    pub found-there : {i : ℕ} → PlaceOf 8 firsts t i → i < n → Found (Some i)
+    found-there {i} h l =
         ap (λ (p : Pair). found (take i (pairs_in firsts seconds n)) p (drop (suc i) (pairs_in firsts seconds n))) (pairs-at i l)
-        ∙ sym (first_of-below (first_is t) n (pair_in firsts seconds) i l (eq-eqb (byte_in firsts i) t (h.found (omega arith))) below)
+        ∙ sym (first_of-below (first_is t) n (pair_in firsts seconds) i l (eq-eqb (byte_in firsts i) t (h.found (omega arith)))
+        (λ j m. ne_eqb (byte_in firsts j) t (h.below j m)))
 
-    pub find-nowhere : n ≤ i → found_at (pairs_in firsts seconds n) Nowhere ≡ first_of (first_is t) (pairs_in firsts seconds n)
-    find-nowhere l = sym (first_of-below-none (first_is t) n (pair_in firsts seconds) (λ j m. below j (omega arith)))
-
-  -- of no records
-  pub find_none : (t : ℕ) → n ≡ 0 → found_at (pairs_in firsts seconds n) Nowhere ≡ first_of (first_is t) (pairs_in firsts seconds n)
-  find_none t e = sym (first_of-below-none (first_is t) n (pair_in firsts seconds) (λ j m. absurd (omega arith)))
+    -- the records before a place have other tags, and that is all of them
+    pub found-nowhere : (i : ℕ) → n ≤ i → ((j : ℕ) → j < i → byte_in firsts j ≢ t) → Found None
+    found-nowhere i l h =
+        sym (first_of-below-none (first_is t) n (pair_in firsts seconds) (λ j m. ne_eqb (byte_in firsts j) t (h j (omega arith))))

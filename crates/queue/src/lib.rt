@@ -23,12 +23,6 @@ pub struct Pairs {
     pub len: usize,
 }
 
-#[derive(Clone, Copy)]
-pub enum Place {
-    At(usize),
-    Nowhere,
-}
-
 impl Tags {
     pub fn push(mut self, t: u8) -> Tags
         requires { self.len < 8 }
@@ -84,18 +78,18 @@ impl Pairs {
     }
 
     // The oldest record with the first tag.
-    pub fn find(self, t: u8) -> Place
+    pub fn find(self, t: u8) -> Option<usize>
         requires { HeldPairs self }
         ensures { found_at (pairs_of self) result ≡ first_of (λ (p : Pair). eqb p.first t) (pairs_of self) }
     {
+        // most wait buffers are empty, and that is told without a search
         if self.len == 0 {
-            return Place::Nowhere;
+            return None;
         }
-        let i = words::place_of(self.firsts, t);
-        if i < self.len {
-            return Place::At(i);
+        match words::place_of(self.firsts, t) {
+            Some(i) if i < self.len => Some(i),
+            _ => None,
         }
-        Place::Nowhere
     }
 
     // The records without that at a place.

@@ -1,5 +1,5 @@
 -- Laws of items held in rows: one item more, in the next row or where there is none.
-use Prim.Native.Nat.{ℕ, suc, ◌/◌, ◌≤◌, ◌<◌}
+use Prim.Native.Nat.{ℕ, suc, ◌≤◌, ◌<◌}
 use mathlib.Core.Path.{◌≡◌, refl, sym, ap, ap₂, ◌∙◌}
 use mathlib.Core.List.{List, [], ◌∷◌, ◌++◌, map}
 use native.Mathlib.Omega.{arith}
@@ -27,23 +27,6 @@ same_then a b = record {
 
 pub same-sizes : (r : Rows) → SameSizes r r
 same-sizes r = record { heads-size = refl; bytes-size = refl; words_size = refl }
-
--- a slice that is too short for one more row
-pub full-heads : (r : Rows) (n : ℕ) → length r.heads / 2 ≤ n → row_count r ≤ n
-unfolding row_count
-full-heads r n h = omega arith
-
-pub full-bytes : (r : Rows) (n : ℕ) → length r.bytes / 10 ≤ n → row_count r ≤ n
-unfolding row_count
-full-bytes r n h = omega arith
-
-pub full-words : (r : Rows) (n : ℕ) → length r.words / 8 ≤ n → row_count r ≤ n
-unfolding row_count
-full-words r n h = omega arith
-
-pub room-left : (r : Rows) (n : ℕ) → n < length r.heads / 2 → n < length r.bytes / 10 → n < length r.words / 8 → n < row_count r
-unfolding row_count
-room-left r n h b w = omega arith
 
 -- ---- one item more
 pub holds-none : (r : Rows) → RowsHold r [] 0 r

@@ -1,22 +1,14 @@
 -- Laws of lines: where one ends, and the lines behind it.
-use Prim.Native.Nat.{ℕ, zero, suc, ◌≤◌, ◌<◌}
+use Prim.Native.Nat.{ℕ, zero, suc, ◌-◌, ◌≤◌, ◌<◌, min}
 use mathlib.Core.Path.{◌≡◌, refl, sym, ap, ◌∙◌}
-use mathlib.Core.Bool.{true, false, not}
-use mathlib.Core.Logic.{◌≢◌}
 use mathlib.Core.List.{List, [], ◌∷◌}
 use native.Mathlib.Omega.{arith}
-use lib.ListN.{length, take, drop, length-drop}
+use lib.ListN.{length, take, drop, length-drop, drop_of_length-le}
+use lib.Seq.{take_all}
 use borrow.Author.Tests.{eq-eqb, ne_eqb}
 use Rattle.lists.proofs.Tests.{choose_yes, choose_no, below-cases}
 use Rattle.lines.specs.Said.{leading}
 use Rattle.reading.specs.Text.{in_line, lines_up_to, lines_of}
-
--- ---- newlines
-pub in-line : (c : ℕ) → c ≢ 10 → in_line c ≡ true
-in-line c n = ap not (ne_eqb c 10 n)
-
-pub no_line : (c : ℕ) → c ≡ 10 → in_line c ≡ false
-no_line c e = ap not (eq-eqb c 10 e)
 
 -- ---- the lines one by one
 lines_step : (most : ℕ) (s : List ℕ) → 0 < length s →
@@ -54,3 +46,11 @@ lines_next (c ∷ s) h =
 pub lines-ended : (s : List ℕ) → length s ≡ 0 → lines_of s ≡ []
 unfolding lines_of
 lines-ended s e = lines_none (length s) s e
+
+-- ---- what stands behind a newline, if the text has one there
+pub line-passed : (text : List ℕ) (end next : ℕ) → next ≡ min (suc end) (length text) → take (length text - next) (drop next text) ≡ drop (suc end) text
+line-passed text end next e =
+    let all : length (drop next text) ≤ length text - next = omega (arith, length-drop next text) in
+    take_all (length text - next) (drop next text) all ∙ below-cases end (length text)
+    (λ b. let same : next ≡ suc end = omega (arith, e) in ap (λ (n : ℕ). drop n text) same)
+    (λ b. drop_of_length-le text {i = next} (omega (arith, e)) ∙ sym (drop_of_length-le text {i = suc end} (omega arith)))

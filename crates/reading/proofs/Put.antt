@@ -1,21 +1,22 @@
 -- Laws of an item stored in a row: what the row says then, and that the other rows say what they said.
 use Prim.Native.Nat.{ℕ, zero, suc, ◌+◌, ◌*◌, ◌≤◌, ◌<◌, ◌^◌}
 use mathlib.Core.Path.{◌≡◌, refl, sym, ap, subst, ◌∙◌}
-use mathlib.Core.Logic.{◌≢◌}
+use mathlib.Core.Logic.{◌≢◌, ◌⊎◌, ⊎_elim}
 use mathlib.Core.List.{List, [], ◌∷◌}
 use native.Mathlib.Nat.{add-zero, mul-suc, mul-le-mul_left}
-use native.Mathlib.Decide.{ℕ_discrete}
 use native.Mathlib.Omega.{arith}
 use lib.ListN.{length, get_or, take, set, length-set}
 use lib.Seq.{get_or-set_same, get_or-set_other, get_or-take}
 use Rattle.lists.specs.Table.{update}
-use borrow.Author.Tests.{ne_eqb}
-use Rattle.lists.proofs.Tests.{below-cases, by_cases, choose_no, test-clash}
+use Rattle.lists.proofs.Tests.{below-cases}
 use Rattle.event.specs.Event.{event, drain}
 use Rattle.trace.specs.Item.{shape, word, request, act}
 use Rattle.trace.specs.Table.{first_row, kind_row}
 use Rattle.trace.specs.Table as T
 use Rattle.trace.specs.Inner.Fits.{FieldsFit, no_field, field_fits}
+use Rattle.trace.specs.Inner.Kinds.{number_of_kind}
+use Rattle.trace.specs.declared.kind.RecordKind.{RecordKind}
+use Rattle.trace.specs.declared.kind.RecordKind.TheVariants.{Shape, Word, Request, Event, Drain}
 use Rattle.writing.specs.Rows.{Rows, rows, row_count, kind_at, cell, picked, entry_of, entry, known}
 use Rattle.reading.specs.Inner.Row.{item_of, three_set, two_set, MayKeep, RowPut}
 use Rattle.reading.proofs.Rows.{entry-same}
@@ -156,32 +157,34 @@ module _ (values : List ℕ) (i : ℕ) (h b w : List ℕ) (room : i < row_count 
   unfolding Three
   three = three-are b (10 * i) values (omega (arith, sizes.1))
 
-  pub put-shape : (kind : ℕ) → kind ≡ 1 → RowPut kind values i (rows h b w) (rows (set h (2 * i) kind) (three_set b (10 * i) values) w)
-  unfolding Three
-  put-shape kind e = rw e (row_put (says-shape _ i values (kind-is 1) three) (kind-kept 1) (three-kept b i values) (kept 8 i w))
+  module _ {kind : RecordKind} {head : ℕ} (head-is : head ≡ number_of_kind kind) where
+    pub put_three_bytes : (kind ≡ Shape) ⊎ (kind ≡ Event) →
+        RowPut (number_of_kind kind) values i (rows h b w) (rows (set h (2 * i) head) (three_set b (10 * i) values) w)
+    unfolding Three
+    put_three_bytes either = rw head-is (⊎_elim
+        (λ e. rw e (row_put (says-shape _ i values (kind-is 1) three) (kind-kept 1) (three-kept b i values) (kept 8 i w)))
+        (λ e. rw e (row_put (says-event _ i values (kind-is 4) three) (kind-kept 4) (three-kept b i values) (kept 8 i w)))
+        either)
 
-  pub put-event : (kind : ℕ) → kind ≡ 4 → RowPut kind values i (rows h b w) (rows (set h (2 * i) kind) (three_set b (10 * i) values) w)
-  unfolding Three
-  put-event kind e = rw e (row_put (says-event _ i values (kind-is 4) three) (kind-kept 4) (three-kept b i values) (kept 8 i w))
+    pub put_word : kind ≡ Word → RowPut (number_of_kind kind) values i (rows h b w)
+        (rows (set h (2 * i) head) (set b (10 * i) (get_or values 0 0)) (set w (8 * i) (get_or values 1 0)))
+    put_word e = rw (head-is, e) (row_put
+        (says-word _ i values (kind-is 2)
+        (get_or-set_same b (10 * i) (get_or values 0 0) 0 (omega (arith, sizes.1))) (get_or-set_same w (8 * i) (get_or values 1 0) 0 (omega (arith, sizes.2))))
+        (kind-kept 2) (kept_set 0 _ _ (omega arith) (sym (add-zero _)) (kept 10 i b)) (kept_set 0 _ _ (omega arith) (sym (add-zero _)) (kept 8 i w)))
 
-  pub put_word : (kind : ℕ) → kind ≡ 2 →
-      RowPut kind values i (rows h b w) (rows (set h (2 * i) kind) (set b (10 * i) (get_or values 0 0)) (set w (8 * i) (get_or values 1 0)))
-  put_word kind e = rw e (row_put
-      (says-word _ i values (kind-is 2)
-      (get_or-set_same b (10 * i) (get_or values 0 0) 0 (omega (arith, sizes.1))) (get_or-set_same w (8 * i) (get_or values 1 0) 0 (omega (arith, sizes.2))))
-      (kind-kept 2) (kept_set 0 _ _ (omega arith) (sym (add-zero _)) (kept 10 i b)) (kept_set 0 _ _ (omega arith) (sym (add-zero _)) (kept 8 i w)))
+    pub put-request : kind ≡ Request → RowPut (number_of_kind kind) values i (rows h b w)
+        (rows (set h (2 * i) head) (three_set b (10 * i) values) (two_set w (8 * i) values))
+    unfolding Three
+    put-request e = let both = two-are w (8 * i) values (omega (arith, sizes.2)) in
+        rw (head-is, e) (row_put (says-request _ i values (kind-is 3) three both.0 both.1) (kind-kept 3) (three-kept b i values) (two-kept w i values))
 
-  pub put-request : (kind : ℕ) → kind ≡ 3 →
-      RowPut kind values i (rows h b w) (rows (set h (2 * i) kind) (three_set b (10 * i) values) (two_set w (8 * i) values))
-  unfolding Three
-  put-request kind e = let both = two-are w (8 * i) values (omega (arith, sizes.2)) in
-      rw e (row_put (says-request _ i values (kind-is 3) three both.0 both.1) (kind-kept 3) (three-kept b i values) (two-kept w i values))
-
-  pub put-drain : (kind : ℕ) → kind ≡ 5 → RowPut kind values i (rows h b w) (rows (set (set h (2 * i) kind) (2 * i + 1) (get_or values 0 0)) b w)
-  put-drain kind e =
-      let kind-stays = get_or-set_other (set h (2 * i) 5) (2 * i + 1) (2 * i) (get_or values 0 0) 0 (omega arith) ∙ kind-is 5 in
-      let rounds = get_or-set_same (set h (2 * i) 5) (2 * i + 1) (get_or values 0 0) 0 (omega (arith, sizes.0, length-set h (2 * i) 5)) in
-      rw e (row_put (says-drain _ i values kind-stays rounds) (kept_set 1 _ _ (omega arith) refl (kind-kept 5)) (kept 10 i b) (kept 8 i w))
+    pub put-drain : kind ≡ Drain → RowPut (number_of_kind kind) values i (rows h b w)
+        (rows (set (set h (2 * i) head) (2 * i + 1) (get_or values 0 0)) b w)
+    put-drain e =
+        let kind-stays = get_or-set_other (set h (2 * i) 5) (2 * i + 1) (2 * i) (get_or values 0 0) 0 (omega arith) ∙ kind-is 5 in
+        let rounds = get_or-set_same (set h (2 * i) 5) (2 * i + 1) (get_or values 0 0) 0 (omega (arith, sizes.0, length-set h (2 * i) 5)) in
+        rw (head-is, e) (row_put (says-drain _ i values kind-stays rounds) (kept_set 1 _ _ (omega arith) refl (kind-kept 5)) (kept 10 i b) (kept 8 i w))
 
 -- ---- the numbers fit their cells
 field-low : {widths fields : List ℕ} → FieldsFit widths fields → (j : ℕ) → j < length widths → get_or fields j 0 < 256 ^ get_or widths j 0
@@ -189,8 +192,11 @@ field-low no_field j l = absurd (omega arith)
 field-low (field_fits p rest) zero l = p
 field-low (field_fits p rest) (suc j) l = field-low rest j (omega arith)
 
-module _ {kind : ℕ} {values : List ℕ} (may : MayKeep kind values) where
-  value_low : (widths : List ℕ) → (kind_row kind).widths ≡ widths → (j : ℕ) → j < length widths → get_or values j 0 < 256 ^ get_or widths j 0
+widths_of : {kind kind' : RecordKind} → kind ≡ kind' → (kind_row (number_of_kind kind)).widths ≡ (kind_row (number_of_kind kind')).widths
+widths_of e = ap (λ (k : RecordKind). (kind_row (number_of_kind k)).widths) e
+
+module _ {kind : RecordKind} {values : List ℕ} (may : MayKeep kind values) where
+  value_low : (widths : List ℕ) → (kind_row (number_of_kind kind)).widths ≡ widths → (j : ℕ) → j < length widths → get_or values j 0 < 256 ^ get_or widths j 0
   value_low widths e j l =
       let fit : FieldsFit widths (take (length widths) values) = subst (λ (ws : List ℕ). FieldsFit ws (take (length ws) values)) e may.fit in
       rw (get_or-take (length widths) values j 0 l) at (field-low fit j l)
@@ -198,34 +204,22 @@ module _ {kind : ℕ} {values : List ℕ} (may : MayKeep kind values) where
   BytesLow : Type 0
   BytesLow = (get_or values 0 0 < 256) × (get_or values 1 0 < 256) × (get_or values 2 0 < 256)
 
-  three-low : (rest : List ℕ) → (kind_row kind).widths ≡ 1 ∷ 1 ∷ 1 ∷ rest → BytesLow
+  three-low : (rest : List ℕ) → (kind_row (number_of_kind kind)).widths ≡ 1 ∷ 1 ∷ 1 ∷ rest → BytesLow
   unfolding BytesLow
   three-low rest e = let low = value_low (1 ∷ 1 ∷ 1 ∷ rest) e in (low 0 (omega arith), low 1 (omega arith), low 2 (omega arith))
 
-  pub shape-low : kind ≡ 1 → (get_or values 0 0 < 256) × (get_or values 1 0 < 256) × (get_or values 2 0 < 256)
+  pub three-bytes-low : (kind ≡ Shape) ⊎ (kind ≡ Event) → (get_or values 0 0 < 256) × (get_or values 1 0 < 256) × (get_or values 2 0 < 256)
   unfolding BytesLow kind_row first_row T.rows
-  shape-low e = three-low [] (ap (λ (k : ℕ). (kind_row k).widths) e)
+  three-bytes-low either = ⊎_elim (λ e. three-low [] (widths_of e)) (λ e. three-low [] (widths_of e)) either
 
-  pub request-low : kind ≡ 3 → (get_or values 0 0 < 256) × (get_or values 1 0 < 256) × (get_or values 2 0 < 256)
+  pub request-low : kind ≡ Request → (get_or values 0 0 < 256) × (get_or values 1 0 < 256) × (get_or values 2 0 < 256)
   unfolding BytesLow kind_row first_row T.rows
-  request-low e = three-low (8 ∷ 8 ∷ []) (ap (λ (k : ℕ). (kind_row k).widths) e)
+  request-low e = three-low (8 ∷ 8 ∷ []) (widths_of e)
 
-  pub event-low : kind ≡ 4 → (get_or values 0 0 < 256) × (get_or values 1 0 < 256) × (get_or values 2 0 < 256)
-  unfolding BytesLow kind_row first_row T.rows
-  event-low e = three-low [] (ap (λ (k : ℕ). (kind_row k).widths) e)
-
-  pub word_low : kind ≡ 2 → get_or values 0 0 < 256
+  pub word_low : kind ≡ Word → get_or values 0 0 < 256
   unfolding kind_row first_row T.rows
-  word_low e = value_low (1 ∷ 8 ∷ []) (ap (λ (k : ℕ). (kind_row k).widths) e) 0 (omega arith)
+  word_low e = value_low (1 ∷ 8 ∷ []) (widths_of e) 0 (omega arith)
 
-  pub drain-low : kind ≡ 5 → get_or values 0 0 < 65536
+  pub drain-low : kind ≡ Drain → get_or values 0 0 < 65536
   unfolding kind_row first_row T.rows
-  drain-low e = value_low (2 ∷ []) (ap (λ (k : ℕ). (kind_row k).widths) e) 0 (omega arith)
-
-  -- the table has no other kind
-  pub is-drain : kind ≢ 1 → kind ≢ 2 → kind ≢ 3 → kind ≢ 4 → kind ≡ 5
-  unfolding kind_row first_row T.rows
-  is-drain n1 n2 n3 n4 = by_cases (ℕ_discrete kind 5) (λ (e : kind ≡ 5). e) (λ (n5 : kind ≢ 5).
-      let none : kind_row kind ≡ T.no_row = choose_no _ _ (ne_eqb kind 1 n1) ∙ choose_no _ _ (ne_eqb kind 2 n2) ∙ choose_no _ _ (ne_eqb kind 3 n3)
-      ∙ choose_no _ _ (ne_eqb kind 4 n4) ∙ choose_no _ _ (ne_eqb kind 5 n5) in
-      test-clash (sym (ap (λ (x : T.Row). T.is_row x) none) ∙ may.is-row) refl)
+  drain-low e = value_low (2 ∷ []) (widths_of e) 0 (omega arith)

@@ -1,10 +1,12 @@
 // How the numbers of an item are stored in a row: each in the next cell of its width.
 ghost use Rattle.std.specs.Prelude.{◌≡◌, ◌+◌, ◌*◌, ◌≤◌, ◌<◌, length, get_or, set};
-ghost use Rattle.writing.specs.Rows.{rows};
-ghost use Rattle.reading.specs.Inner.Row.{three_set, two_set, MayKeep, MayPut, RowPut};
+ghost use Rattle.trace.specs.Inner.Kinds.{number_of_kind};
+ghost use Rattle.writing.specs.Rows.{row_count};
+ghost use Rattle.reading.specs.Inner.Row.{lent, three_set, two_set, MayKeep, MayPut, SameLent, RowPut};
 ghost use Rattle.reading.specs.Inner.Walk.{Kept};
 
 use lines::Values;
+use trace::kind::RecordKind;
 
 // A row has so many numbers of two bytes, of one byte and of eight bytes.
 pub const HEADS: usize = 2;
@@ -15,7 +17,7 @@ pub const WORDS: usize = 8;
 
 // The first three numbers, of one byte each.
 fn put_three(values: &Values, at: usize, bytes: &mut [u8])
-    requires values_len { (length values.now ≡ 5) × (at + 3 ≤ length bytes.old) }
+    requires bytes_room { at + 3 ≤ length bytes.old }
     requires values_bound { (get_or values.now 0 0 < 256) × (get_or values.now 1 0 < 256) × (get_or values.now 2 0 < 256) }
     ensures { bytes.new ≡ three_set bytes.old at values.now }
 {
@@ -26,7 +28,7 @@ fn put_three(values: &Values, at: usize, bytes: &mut [u8])
 
 // The operands of a request.
 fn put_operands(values: &Values, at: usize, words: &mut [u64])
-    requires { (length values.now ≡ 5) × (at + 2 ≤ length words.old) }
+    requires { at + 2 ≤ length words.old }
     ensures { words.new ≡ two_set words.old at values.now }
 {
     words[at] = values[3];
@@ -35,7 +37,7 @@ fn put_operands(values: &Values, at: usize, words: &mut [u64])
 
 // The address and the value of a word.
 fn put_word(values: &Values, i: usize, bytes: &mut [u8], words: &mut [u64])
-    requires { (length values.now ≡ 5) × (10 * i < length bytes.old) × (8 * i < length words.old) × (get_or values.now 0 0 < 256) }
+    requires { (10 * i < length bytes.old) × (8 * i < length words.old) × (get_or values.now 0 0 < 256) }
     ensures bytes_after { bytes.new ≡ set bytes.old (10 * i) (get_or values.now 0 0) }
     ensures words_after { words.new ≡ set words.old (8 * i) (get_or values.now 1 0) }
 {
@@ -43,56 +45,53 @@ fn put_word(values: &Values, i: usize, bytes: &mut [u8], words: &mut [u64])
     words[WORDS * i] = values[1];
 }
 
-// An item of a kind, whose fields have these numbers, stored in row i.
-pub fn put_row(
-    kind: u16,
-    values: &Values,
-    i: usize,
-    heads: &mut [u16],
-    bytes: &mut [u8],
-    words: &mut [u64],
-)
-    requires { MayPut kind values.now i (rows heads.old bytes.old words.old) }
-    ensures { RowPut kind values.now i (rows heads.old bytes.old words.old)
-        (rows heads.new bytes.new words.new) }
-{
-    heads[HEADS * i] = kind;
-    match kind {
-        1 => put_three(values, BYTES * i, bytes),
-        2 => put_word(values, i, bytes, words),
-        3 => {
-            put_three(values, BYTES * i, bytes);
-            put_operands(values, WORDS * i, words);
-        }
-        4 => put_three(values, BYTES * i, bytes),
-        _ => {
-            heads[HEADS * i + 1] = values[0] as u16;
-        }
-    }
+// Lent rows, and how many of them are filled.
+#[derive(Drop)]
+pub struct LentRows<'a> {
+    pub heads: &'a mut [u16],
+    pub bytes: &'a mut [u8],
+    pub words: &'a mut [u64],
+    pub filled: usize,
 }
 
-// An item goes into the next row, where there is one: how many rows are filled then.
-pub fn keep(
-    kind: u16,
-    values: &Values,
-    n: usize,
-    heads: &mut [u16],
-    bytes: &mut [u8],
-    words: &mut [u64],
-) -> usize
-    requires { MayKeep kind values.now }
-    ensures { Kept kind values.now n (rows heads.old bytes.old words.old)
-        result (rows heads.new bytes.new words.new) }
-{
-    if n >= heads.len() / HEADS {
-        return n;
+impl<'a> LentRows<'a> {
+    // An item of a kind, whose fields have these numbers, stored in row i.
+    #[tactic(auto, unfolding(writing::specs::Rows::row_count))]
+    pub fn put_row(&mut self, i: usize, kind: RecordKind, values: &Values)
+        requires { MayPut kind values.now i (lent self.old) }
+        ensures lent { SameLent self.old self.new }
+        ensures filled { self.new.filled ≡ self.old.filled }
+        ensures row { RowPut (number_of_kind kind) values.now i (lent self.old) (lent self.new) }
+    {
+        self.heads[HEADS * i] = kind.into();
+        match kind {
+            RecordKind::Shape | RecordKind::Event => put_three(values, BYTES * i, self.bytes),
+            RecordKind::Word => put_word(values, i, self.bytes, self.words),
+            RecordKind::Request => {
+                put_three(values, BYTES * i, self.bytes);
+                put_operands(values, WORDS * i, self.words);
+            }
+            RecordKind::Drain => self.heads[HEADS * i + 1] = values[0] as u16,
+        }
     }
-    if n >= bytes.len() / BYTES {
-        return n;
+
+    // As many rows as all slices have.
+    #[tactic(auto, unfolding(writing::specs::Rows::row_count))]
+    fn count(&self) -> usize
+        ensures { result ≡ row_count (lent self.now) }
+    {
+        (self.heads.len() / HEADS).min((self.bytes.len() / BYTES).min(self.words.len() / WORDS))
     }
-    if n >= words.len() / WORDS {
-        return n;
+
+    // An item goes into the next row, where there is one.
+    pub fn keep(&mut self, kind: RecordKind, values: &Values)
+        requires { MayKeep kind values.now }
+        ensures lent { SameLent self.old self.new }
+        ensures kept { Kept (number_of_kind kind) values.now self.old.filled (lent self.old) self.new.filled (lent self.new) }
+    {
+        if self.filled < self.count() {
+            self.put_row(self.filled, kind, values);
+            self.filled += 1;
+        }
     }
-    put_row(kind, values, n, heads, bytes, words);
-    n + 1
 }

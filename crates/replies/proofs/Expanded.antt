@@ -134,22 +134,29 @@ module _ (m₀ : List ℕ) {m : List ℕ} (level t firsts seconds i : ℕ) (put 
       Becomes m'' (with_order (view m₀) (gone (view m₀) level t firsts seconds (i + 1)))
   put-miss first e n now = rw (now, sofar-miss (under (view m₀) level) t (pair_in firsts seconds) i (λ z. n (e ∙ z))) put
 
--- ---- of the whole level
-module _ (m m₀ : List ℕ) (level t p firsts seconds n : ℕ) (up : level ≢ 0) (on : p ≡ position_on ((view m₀).fixed.path t) level)
-    (loaded : pairs_in firsts seconds n ≡ (view m₀).waits level p) (first : Becomes m₀ (with_expansion (view m) (level - 1) t)) where
+-- ---- of the whole level, once the level below is put out and the records are loaded
+pub record Opened (m m₀ : List ℕ) (level t p firsts seconds n : ℕ) : Type 0 where
+  pub up : level ≢ 0
+  pub on : p ≡ position_on ((view m₀).fixed.path t) level
+  pub loaded : pairs_in firsts seconds n ≡ (view m₀).waits level p
+  pub first : Becomes m₀ (with_expansion (view m) (level - 1) t)
+
+module _ {m m₀ : List ℕ} {level t p firsts seconds n : ℕ} (O : Opened m m₀ level t p firsts seconds n) where
   tags-all : tags_for (view m).fixed.path (view m).waits level t ≡ under (view m) level t ++ gone (view m) level t firsts seconds n
-  tags-all = tags-up (view m).fixed.path (view m).waits level t p firsts seconds n up (rw first.holds at on) (rw first.holds at loaded)
+  tags-all = tags-up (view m).fixed.path (view m).waits level t p firsts seconds n O.up (rw O.first.holds at O.on) (rw O.first.holds at O.loaded)
 
   pub put_all : {m' : List ℕ} (i : ℕ) → gone (view m₀) level t firsts seconds i ≡ gone (view m₀) level t firsts seconds n →
       Becomes m' (with_order (view m₀) (gone (view m₀) level t firsts seconds i)) →
       Becomes m' (with_expansion (view m) level t)
   put_all {m'} i e b =
       let v = view m in
-      let is : view m' ≡ with_order (with_order v (under v level t)) (gone v level t firsts seconds n) = rw (e, first.holds) at b.holds in
+      let is : view m' ≡ with_order (with_order v (under v level t)) (gone v level t firsts seconds n) = rw (e, O.first.holds) at b.holds in
       record { sized = b.sized; holds = is ∙ order-more (view m) _ _ ∙ ap (with_order (view m)) (sym tags-all) }
 
-  pub put-empty : n ≡ 0 → Becomes m₀ (with_expansion (view m) level t)
-  put-empty e = put_all n refl (put-none m₀ level t firsts seconds n first.sized (λ j l. absurd (omega arith)))
+  -- no record of t: of none at all, or of n others
+  pub put-nothing : (i : ℕ) → n ≤ i → ((j : ℕ) → j < i → byte_in firsts j ≢ t) → Becomes m₀ (with_expansion (view m) level t)
+  put-nothing i h none =
+      put_all i (past-none (under (view m₀) level) t (pair_in firsts seconds) n i none h) (put-none m₀ level t firsts seconds i O.first.sized none)
 
   -- a record's second tag has room behind those before it
   pub second-room : {m₁ : List ℕ} (i u v : ℕ) → i < n → u ≡ (pair_in firsts seconds i).first → u ≡ t → v ≡ (pair_in firsts seconds i).second →
@@ -158,7 +165,7 @@ module _ (m m₀ : List ℕ) (level t p firsts seconds n : ℕ) (up : level ≢ 
   second-room {m₁} i u v h e g w b room =
       let up_to = under (view m) level in
       let F = pair_in firsts seconds in
-      let is : view m₁ ≡ with_order (with_order (view m) (up_to t)) (sofar up_to t F i) = rw first.holds at b.holds in
+      let is : view m₁ ≡ with_order (with_order (view m) (up_to t)) (sofar up_to t F i) = rw O.first.holds at b.holds in
       let a = ap length tags-all ∙ length-append (up_to t) (sofar up_to t F n) in
       let c = ap length (sofar-hit up_to t F i (sym e ∙ g)) ∙ length-append (sofar up_to t F i) (up_to (F i).second) in
       rw (is, length-append, length-append, w) (omega (arith, a, c, sofar-grows up_to t F (i + 1) n (omega arith), room))

@@ -60,6 +60,10 @@ pub record Oldest (m words : List ℕ) (k p t : ℕ) : Type 0 where
   pub room : length ((view m).replies k p) < (view m).fixed.q
   pub oldest : t ≡ get_or ((view m).requests k p) 0 0
 
+pub oldest-at : {m words : List ℕ} {k p t : ℕ} → ReadyWith m words → k ≡ (view m).fixed.k → 0 < length ((view m).requests (view m).fixed.k p) →
+    t ≡ get_or ((view m).requests k p) 0 0 → length ((view m).replies k p) < (view m).fixed.q → Oldest m words k p t
+oldest-at R e some oldest room = record { ready = R; at-modules = e; some = some; room = room; oldest = oldest }
+
 module _ {m words : List ℕ} {k p t : ℕ} (O : Oldest m words k p t) where
   oldest-there : 0 < length ((view m).requests k p)
   oldest-there = request-there O.ready k O.at-modules p O.some
@@ -88,13 +92,7 @@ module _ {m words : List ℕ} {k p t : ℕ} (O : Oldest m words k p t) where
     module _ {m₂ words' : List ℕ} (old : ℕ) (counted : Becomes m₂ (with_access (view m₁))) (was : old ≡ get_or words ((view m₂).fixed.address t) 0)
         (stored : words' ≡ set words ((view m₂).fixed.address t) (applied (operation_in ((view m₂).carried t)) (get_or words ((view m₂).fixed.address t) 0)))
         {m₃ : List ℕ} (valuedIn : Becomes m₃ (with_carried (view m₂) t (valued ((view m₂).carried t) old))) where
-      pub reply-room : length ((view m₃).replies k p) < 8
-      reply-room = rw (valuedIn.holds, counted.holds, expanded.holds) (omega (arith, O.room, shape-small O.ready.stands))
-
       module _ {m₄ : List ℕ} (pushed : Becomes m₄ (with_reply (view m₃) k p t)) where
-        pub request-stays : 0 < length ((view m₄).requests k p)
-        request-stays = rw (pushed.holds, valuedIn.holds, counted.holds, expanded.holds) oldest-there
-
         pub served : {m₅ : List ℕ} → Becomes m₅ (with_requests (view m₄) k p (drop 1 ((view m₄).requests k p))) →
             MovesWith (single 2 (view m).fixed.k p) m words m₅ words'
         served popped = record {

@@ -3,6 +3,7 @@ use Prim.Native.Nat.{ℕ, zero, suc, ◌+◌, ◌≤◌, ◌<◌}
 use mathlib.Core.Path.{◌≡◌, refl, sym, ◌∙◌, ap}
 use mathlib.Core.Bool.{true}
 use mathlib.Core.List.{List}
+use Rattle.std.specs.Prelude.{Result}
 use native.Mathlib.Numerals.{add-one}
 use native.Mathlib.Omega.{arith}
 use lib.ListN.{length, get_or, set, take, length-set}
@@ -17,7 +18,8 @@ use Rattle.lists.proofs.Below.{below-is}
 use Rattle.store.specs.Inner.Memory.{view}
 use Rattle.trace.specs.Item.{Request}
 use Rattle.trace.specs.Contents.{words_given, requests_of, no_request, request_at, given}
-use Rattle.trace.specs.declared.Answer.{Answer}
+use Rattle.trace.specs.declared.Facts.{Facts}
+use Rattle.trace.specs.declared.Refusal.{Refusal}
 use Rattle.load.specs.Inner.Loaded.{Loaded}
 use Rattle.run.specs.Inner.Run.{items_in}
 use Rattle.report.specs.Report.{asks_for, named}
@@ -52,7 +54,7 @@ marked_more {address} n {before} {after} low m = record {
 }
 
 -- ---- a trace
-pub trace-named : {trace : List ℕ} {r : Answer} {marks words m after : List ℕ} {n : ℕ} → Loaded trace r marks words m →
+pub trace-named : {trace : List ℕ} {r : Result Facts Refusal} {marks words m after : List ℕ} {n : ℕ} → Loaded trace r marks words m →
     n ≡ length (requests_of (items_in trace)) → Marked (view m).fixed.address n marks after → after ≡ list_below 256 (named (items_in trace))
 unfolding named
 trace-named {trace} {m = m} {after = after} {n = n} l size d =

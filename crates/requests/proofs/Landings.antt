@@ -1,5 +1,5 @@
 -- What came of an arrival at the node in hand, once what it changed is stored: the message has landed, or could not.
-use Prim.Native.Nat.{ℕ, suc, ◌≤◌, ◌<◌}
+use Prim.Native.Nat.{ℕ, suc}
 use mathlib.Core.Path.{◌≡◌, refl, sym, ap, ap₂, subst, ◌∙◌}
 use mathlib.Core.Logic.{◌≢◌}
 use mathlib.Core.Bool.{true, false}
@@ -10,17 +10,17 @@ use Rattle.lists.specs.Count.{count}
 use Rattle.lists.specs.Table.{update2}
 use Rattle.lists.specs.Inner.Pair.{Pair}
 use Rattle.lists.proofs.Tables.{update2-same, update2-idle}
-use Rattle.lists.proofs.Below.{length-below, length-down}
+use Rattle.lists.proofs.Below.{length-down}
 use Rattle.words.specs.Inner.Digits.{byte_in}
 use Rattle.operation.specs.declared.Words.{Words}
-use Rattle.queue.specs.Inner.Queue.{tags_of, pair_in, pairs_of}
+use Rattle.queue.specs.Inner.Queue.{tags_of, pairs_of}
 use Rattle.view.specs.Inner.View.{View, filled, carrying, with_requests, with_waits, with_merge}
 use Rattle.store.specs.Inner.Memory.{view, Becomes}
 use Rattle.machine.specs.Arrival.{arrive}
 use Rattle.shown.specs.Inner.Network.{Network, setup}
 use Rattle.shown.specs.Inner.Shown.{message_of}
 use Rattle.shown.specs.Inner.Landing.{Came, came_merged, came_appended, came_refused, node_of, arrival_of, merges_after, with_node, Landed}
-use Rattle.node.specs.Inner.Node.{ApartAt, came_of, ArrivedAt}
+use Rattle.node.specs.Inner.Node.{came_of, ArrivedAt}
 use Rattle.node.specs.declared.Node.{Node}
 use Rattle.node.specs.declared.Arrived.{Arrived}
 use Rattle.node.specs.declared.Outcome.{Outcome}
@@ -53,33 +53,8 @@ module _ (v : View) (s p : ℕ) where
       filled v requests v.waits carried merges ≡ filled v requests (update2 v.waits s p (v.waits s p)) carried merges
   waits-idle requests carried merges = ap (λ (f : ℕ → ℕ → List Pair). filled v requests f carried merges) (sym (update2-idle v.waits s p))
 
--- ---- the node as it is loaded, with the rooms
-pub record InHand (n : Node) (v : View) (t s p q w : ℕ) : Type 0 where
-  pub in_queue : tags_of n.queue ≡ v.requests s p
-  pub in_waiting : pairs_of n.waiting ≡ v.waits s p
-  pub room_q : q ≡ v.fixed.q
-  pub room_w : w ≡ v.fixed.w
-
-module _ {n : Node} {v : View} {t s p q w : ℕ} (L : InHand n v t s p q w) where
-  pub loaded-apart : ApartAt t (v.requests s p) (v.waits s p) → ApartAt t (tags_of n.queue) (pairs_of n.waiting)
-  loaded-apart h = rw (L.in_queue, L.in_waiting) h
-
-  pub loaded-rooms : v.fixed.q ≤ 4 → v.fixed.w ≤ 8 → (q ≤ 4) × (w ≤ 8)
-  loaded-rooms h g = (rw L.room_q h, rw L.room_w g)
-
--- ---- and what came of the arrival
-module _ {n : Node} {v : View} {t s p q w : ℕ} (L : InHand n v t s p q w) {m₁ : List ℕ} {r : Arrived} (A : ArrivedAt n v t q w m₁ r) where
-  loaded-arrives : (x : Network) → x.Q ≡ v.fixed.q → x.W ≡ v.fixed.w →
-      arrive (setup x) (node_of x v (v.requests s p) (v.waits s p)) (message_of x v t) ≡
-      arrival_of x (came_of r.outcome) (node_of x (carrying v (view m₁).carried) (tags_of r.node.queue) (pairs_of r.node.waiting))
-  loaded-arrives x e f =
-      ap₂ (λ (a : List ℕ) (b : List Pair). arrive (setup x) (node_of x v a b) (message_of x v t)) (sym L.in_queue) (sym L.in_waiting)
-      ∙ A.arrives x (e ∙ sym L.room_q) (f ∙ sym L.room_w)
-      ∙ ap (λ (y : View). arrival_of x (came_of r.outcome) (node_of x y (tags_of r.node.queue) (pairs_of r.node.waiting))) A.changes
-
-  loaded-others : (u : ℕ) → u ≢ t → count (λ (w : ℕ). w) u (v.requests s p) ≡ 0 → (view m₁).carried u ≡ v.carried u
-  loaded-others u d h = A.others u d (ap (count (λ (w : ℕ). w) u) L.in_queue ∙ h)
-
+-- ---- what came of the arrival at the node
+module _ {n : Node} {v : View} {t q w : ℕ} {m₁ : List ℕ} {r : Arrived} (A : ArrivedAt n v t q w m₁ r) {s p : ℕ} (in-queue : tags_of n.queue ≡ v.requests s p) where
   -- an append makes the machine's queue longer by one, a merge its wait buffer
   pub longer-by-one : r.outcome ≡ Appended → r.node.queue.len ≡ suc (length ((view m₁).requests s p))
   longer-by-one o =
@@ -87,82 +62,79 @@ module _ {n : Node} {v : View} {t s p q w : ℕ} (L : InHand n v t s p q w) {m�
         arith,
         A.longer o,
         length-down n.queue.len (byte_in n.queue.items),
-        ap (length {A = ℕ}) L.in_queue,
+        ap (length {A = ℕ}) in-queue,
         ap (λ (y : View). length (y.requests s p)) A.changes,
       )
 
-  pub recorded-by-one : r.outcome ≡ Merged → r.node.waiting.len ≡ suc (length ((view m₁).waits s p))
-  recorded-by-one o =
-      omega (
-        arith,
-        A.recorded o,
-        length-below n.waiting.len (pair_in n.waiting.firsts n.waiting.seconds),
-        ap (length {A = Pair}) L.in_waiting,
-        ap (λ (y : View). length (y.waits s p)) A.changes,
-      )
+  loaded-others : (u : ℕ) → u ≢ t → count (λ (w : ℕ). w) u (v.requests s p) ≡ 0 → (view m₁).carried u ≡ v.carried u
+  loaded-others u d h = A.others u d (ap (count (λ (w : ℕ). w) u) in-queue ∙ h)
 
-  -- what is stored, where it was not refused
-  module _ (came : Came) (c : came_of r.outcome ≡ came) (moved : came ≢ came_refused) where
-    landed-node : (tags : List ℕ) (pairs : List Pair) → tags_of r.node.queue ≡ tags → pairs_of r.node.waiting ≡ pairs
-        → Landed v t s p (with_node v s p tags pairs (view m₁).carried (merges_after came v.merges)) came
-    landed-node tags pairs inTags inPairs = record {
-      arrives = λ x e f. loaded-arrives x e f
-          ∙ ap (λ (o : Came). arrival_of x o (node_of x (carrying v (view m₁).carried) (tags_of r.node.queue) (pairs_of r.node.waiting))) c
-          ∙ ap₂ (λ (a : List ℕ) (b : List Pair). arrival_of x came (node_of x (carrying v (view m₁).carried) a b))
-          (inTags ∙ sym (update2-same v.requests s p tags)) (inPairs ∙ sym (update2-same v.waits s p pairs));
-      changes = ap₂ (λ (a : List ℕ) (b : List Pair). with_node v s p a b (view m₁).carried (merges_after came v.merges))
-          (sym (update2-same v.requests s p tags)) (sym (update2-same v.waits s p pairs));
-      others = loaded-others;
-      refusal = λ e. absurd (moved e);
-    }
+  -- with its wait buffer and the rooms
+  module _ (in-waiting : pairs_of n.waiting ≡ v.waits s p) (room-q : q ≡ v.fixed.q) (room-w : w ≡ v.fixed.w) where
+    loaded-arrives : (x : Network) → x.Q ≡ v.fixed.q → x.W ≡ v.fixed.w →
+        arrive (setup x) (node_of x v (v.requests s p) (v.waits s p)) (message_of x v t) ≡
+        arrival_of x (came_of r.outcome) (node_of x (carrying v (view m₁).carried) (tags_of r.node.queue) (pairs_of r.node.waiting))
+    loaded-arrives x e f =
+        ap₂ (λ (a : List ℕ) (b : List Pair). arrive (setup x) (node_of x v a b) (message_of x v t)) (sym in-queue) (sym in-waiting)
+        ∙ A.arrives x (e ∙ sym room-q) (f ∙ sym room-w)
+        ∙ ap (λ (y : View). arrival_of x (came_of r.outcome) (node_of x y (tags_of r.node.queue) (pairs_of r.node.waiting))) A.changes
 
-  -- "the step changes nothing"
-  pub went-refused : r.outcome ≡ Refused → Went v t s p m₁ false
-  went-refused o = record {
-    sized = A.sized;
-    came = came_refused;
-    told = refl;
-    landed = subst (λ (y : View). Landed v t s p y came_refused) (sym (A.unmerged (refused-unmerged o))) stays;
-  }
-    where
-      stays : Landed v t s p v came_refused
-      stays = record {
+    -- what is stored, where it was not refused
+    module _ (came : Came) (c : came_of r.outcome ≡ came) (moved : came ≢ came_refused) where
+      landed-node : (tags : List ℕ) (pairs : List Pair) → tags_of r.node.queue ≡ tags → pairs_of r.node.waiting ≡ pairs
+          → Landed v t s p (with_node v s p tags pairs (view m₁).carried (merges_after came v.merges)) came
+      landed-node tags pairs inTags inPairs = record {
         arrives = λ x e f. loaded-arrives x e f
-            ∙ ap (λ (o : Outcome). arrival_of x (came_of o) (node_of x (carrying v (view m₁).carried) (tags_of r.node.queue) (pairs_of r.node.waiting))) o;
-        changes = requests-idle v s p v.waits v.carried v.merges ∙ waits-idle v s p _ v.carried v.merges;
-        others = λ u d h. refl;
-        refusal = λ _. refl;
+            ∙ ap (λ (o : Came). arrival_of x o (node_of x (carrying v (view m₁).carried) (tags_of r.node.queue) (pairs_of r.node.waiting))) c
+            ∙ ap₂ (λ (a : List ℕ) (b : List Pair). arrival_of x came (node_of x (carrying v (view m₁).carried) a b))
+            (inTags ∙ sym (update2-same v.requests s p tags)) (inPairs ∙ sym (update2-same v.waits s p pairs));
+        changes = ap₂ (λ (a : List ℕ) (b : List Pair). with_node v s p a b (view m₁).carried (merges_after came v.merges))
+            (sym (update2-same v.requests s p tags)) (sym (update2-same v.waits s p pairs));
+        others = loaded-others;
+        refusal = λ e. absurd (moved e);
       }
 
-  -- its tag is in the queue
-  pub went-appended : r.outcome ≡ Appended → {m' : List ℕ} → Becomes m' (with_requests (view m₁) s p (tags_of r.node.queue)) → Went v t s p m' true
-  went-appended o {m'} B = record {
-    sized = B.sized;
-    came = came_appended;
-    told = refl;
-    landed = subst (λ (y : View). Landed v t s p y came_appended) (sym stored)
-        (landed-node came_appended (ap came_of o) appended-stays _ (v.waits s p) refl (ap pairs_of (A.waiting_stays o) ∙ L.in_waiting));
-  }
-    where
-      stored : view m' ≡ with_node v s p (tags_of r.node.queue) (v.waits s p) (view m₁).carried v.merges
-      stored = B.holds ∙ ap (λ (y : View). with_requests y s p (tags_of r.node.queue)) A.changes ∙ waits-idle v s p _ _ _
-
-  -- its record is in the wait buffer, and the merge is counted
-  module _ {m₂ : List ℕ} (B : Becomes m₂ (with_waits (view m₁) s p (pairs_of r.node.waiting))) where
-    merges-kept : (view m₂).merges ≡ v.merges
-    merges-kept = ap (λ (y : View). y.merges) B.holds ∙ ap (λ (y : View). y.merges) A.changes
-
-    pub merges-still-few : v.merges < 65536 → (view m₂).merges < 65536
-    merges-still-few h = rw merges-kept h
-
-    pub went-merged : r.outcome ≡ Merged → {m' : List ℕ} → Becomes m' (with_merge (view m₂)) → Went v t s p m' true
-    went-merged o {m'} C = record {
-      sized = C.sized;
-      came = came_merged;
+    -- "the step changes nothing"
+    pub went-refused : r.outcome ≡ Refused → Went v t s p m₁ false
+    went-refused o = record {
+      sized = A.sized;
+      came = came_refused;
       told = refl;
-      landed = subst (λ (y : View). Landed v t s p y came_merged) (sym stored)
-          (landed-node came_merged (ap came_of o) merged-stays (v.requests s p) _ (ap tags_of (A.queue-stays o) ∙ L.in_queue) refl);
+      landed = subst (λ (y : View). Landed v t s p y came_refused) (sym (A.unmerged (refused-unmerged o))) stays;
     }
       where
-        stored : view m' ≡ with_node v s p (v.requests s p) (pairs_of r.node.waiting) (view m₁).carried (suc v.merges)
-        stored = C.holds ∙ ap with_merge (B.holds ∙ ap (λ (y : View). with_waits y s p (pairs_of r.node.waiting)) A.changes) ∙ requests-idle v s p _ _ _
+        stays : Landed v t s p v came_refused
+        stays = record {
+          arrives = λ x e f. loaded-arrives x e f
+              ∙ ap (λ (o : Outcome). arrival_of x (came_of o) (node_of x (carrying v (view m₁).carried) (tags_of r.node.queue) (pairs_of r.node.waiting))) o;
+          changes = requests-idle v s p v.waits v.carried v.merges ∙ waits-idle v s p _ v.carried v.merges;
+          others = λ u d h. refl;
+          refusal = λ _. refl;
+        }
+
+    -- its tag is in the queue
+    pub went-appended : r.outcome ≡ Appended → {m' : List ℕ} → Becomes m' (with_requests (view m₁) s p (tags_of r.node.queue)) → Went v t s p m' true
+    went-appended o {m'} B = record {
+      sized = B.sized;
+      came = came_appended;
+      told = refl;
+      landed = subst (λ (y : View). Landed v t s p y came_appended) (sym stored)
+          (landed-node came_appended (ap came_of o) appended-stays _ (v.waits s p) refl (ap pairs_of (A.waiting_stays o) ∙ in-waiting));
+    }
+      where
+        stored : view m' ≡ with_node v s p (tags_of r.node.queue) (v.waits s p) (view m₁).carried v.merges
+        stored = B.holds ∙ ap (λ (y : View). with_requests y s p (tags_of r.node.queue)) A.changes ∙ waits-idle v s p _ _ _
+
+    -- its record is in the wait buffer, and the merge is counted
+    module _ {m₂ : List ℕ} (B : Becomes m₂ (with_waits (view m₁) s p (pairs_of r.node.waiting))) where
+      pub went-merged : r.outcome ≡ Merged → {m' : List ℕ} → Becomes m' (with_merge (view m₂)) → Went v t s p m' true
+      went-merged o {m'} C = record {
+        sized = C.sized;
+        came = came_merged;
+        told = refl;
+        landed = subst (λ (y : View). Landed v t s p y came_merged) (sym stored)
+            (landed-node came_merged (ap came_of o) merged-stays (v.requests s p) _ (ap tags_of (A.queue-stays o) ∙ in-queue) refl);
+      }
+        where
+          stored : view m' ≡ with_node v s p (v.requests s p) (pairs_of r.node.waiting) (view m₁).carried (suc v.merges)
+          stored = C.holds ∙ ap with_merge (B.holds ∙ ap (λ (y : View). with_waits y s p (pairs_of r.node.waiting)) A.changes) ∙ requests-idle v s p _ _ _

@@ -32,6 +32,7 @@ use Rattle.shown.proofs.Forwards.{oldest-first, landed-fixed, landed-rounds, for
 use Rattle.shown.proofs.Issues.{issue-shows}
 use Rattle.node.specs.Inner.Node.{ApartAt}
 use Rattle.moves.specs.Inner.Moves.{Ready, Moves, went_on, Went}
+use Rattle.requests.specs.Inner.Arrivals.{MayArrive}
 
 both-at-most : (a b c d : ℕ) → both (leb a b) (leb c d) ≡ true → (a ≤ b) × (c ≤ d)
 both-at-most a b c d e = let h = both_true (leb a b) (leb c d) e in (leb-true a b h.0, leb-true c d h.1)
@@ -45,7 +46,7 @@ went-not came_appended e = test-clash refl e
 went-not came_refused e = refl
 
 -- "k 1 to 4; queue room Q 1 to 4; wait room W 0 to 8", and the counts of a run are small
-pub rooms : {m : List ℕ} → Ready m → ((view m).fixed.q ≤ 4) × ((view m).fixed.w ≤ 8) × ((view m).merges < 65536)
+rooms : {m : List ℕ} → Ready m → ((view m).fixed.q ≤ 4) × ((view m).fixed.w ≤ 8) × ((view m).merges < 65536)
 rooms {m} R =
     let F = R.stands.fits in
     let merges = merges-few R.network (view m) F R.words (stands-sound R.stands) in
@@ -53,9 +54,6 @@ rooms {m} R =
 
 pub levels-few : {m : List ℕ} → Ready m → (view m).fixed.k ≤ 4
 levels-few {m} R = rw R.stands.fits.k-is R.stands.fits.ranges.k-most
-
-count-few : {m : List ℕ} → Ready m → (view m).fixed.count ≤ 256
-count-few {m} R = rw R.stands.fits.count-is R.stands.fits.ranges.R-most
 
 -- a queue of the network is not longer than its room
 pub queue-few : {m : List ℕ} → Ready m → (s p : ℕ) → 0 < s → length ((view m).requests s p) ≤ 8
@@ -77,11 +75,15 @@ module _ {m : List ℕ} {es : List Event} {s p t to : ℕ} (G : Going m es s p t
   first : (x : Network) → (behind : List ℕ) × (tags_at x (view m) s p ≡ t ∷ behind)
   first x = oldest-first x (view m) s p t G.rest G.is
 
-  pub going-apart : ApartAt t ((view m).requests (s + 1) to) ((view m).waits (s + 1) to)
+  going-apart : ApartAt t ((view m).requests (s + 1) to) ((view m).waits (s + 1) to)
   going-apart = let f = first G.ready.network in rw add-one (forward-apart G.ready.stands s p t f.0 f.1 to)
 
-  pub going-few : (length ((view m).requests (s + 1) to) ≤ 4) × (length ((view m).waits (s + 1) to) ≤ 8)
+  going-few : (length ((view m).requests (s + 1) to) ≤ 4) × (length ((view m).waits (s + 1) to) ≤ 8)
   going-few = rw add-one (requests-few G.ready.stands s to, waits-few G.ready.stands (suc s) to)
+
+  -- what is asked of it where it goes
+  pub going-may : s + 1 < 5 → to < 16 → MayArrive (view m) t (s + 1) to
+  going-may l p = ((omega arith, l, p, going-few.0, going-few.1), (rooms G.ready, going-apart))
 
   -- neither the queue nor the wait buffer has room
   pub full-moves : {r : Bool} →
@@ -108,9 +110,6 @@ module _ {m : List ℕ} {es : List Event} {s p t to : ℕ} (G : Going m es s p t
 
     fixed-stays : (view m₁).fixed ≡ (view m).fixed
     fixed-stays = landed-fixed landed
-
-    pub count-still-few : (view m₁).fixed.count ≤ 256
-    count-still-few = rw fixed-stays (count-few G.ready)
 
     source_stays : (view m₁).requests s p ≡ (view m).requests s p
     source_stays = ap (λ (y : View). y.requests s p) landed.changes ∙ update2-other (view m).requests (suc s) to _ s p (λ e. omega (arith, e.0))

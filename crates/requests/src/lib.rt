@@ -3,12 +3,12 @@
 
 ghost use Rattle.std.specs.Prelude.{◌≡◌, ◌<◌, length};
 ghost use Rattle.requests.specs.Inner.Arrivals.{is_full, MayArrive};
-ghost use Rattle.store.specs.Inner.Layout.{size};
 ghost use Rattle.store.specs.Inner.Memory.{view};
 ghost use Rattle.shown.specs.Inner.Reached.{single};
 ghost use Rattle.moves.specs.Inner.Moves.{Ready, Moves, Went};
 
 use node::{Node, Outcome};
+use store::queues::Requests;
 use store::{Machine, queues, shape, tags};
 
 // "engine e's next unissued request, in trace order, arrives at level 1 on its path"
@@ -36,13 +36,13 @@ pub fn forward(m: &mut Machine, level: usize, position: usize)
     requires nonzero { 0 < length ((view m.old).requests level position) }
     ensures { Moves (single 1 level position) m.old m.new }
 {
-    let t = queues::oldest_request(m, level, position);
+    let t = queues::oldest::<Requests>(m, level, position);
     let to = tags::position_of(m, t, level + 1);
     if is_full(m, level + 1, to) {
         return;
     }
     if arrive_at(m, t, level + 1, to) {
-        queues::pop_request(m, level, position);
+        queues::pop::<Requests>(m, level, position);
     }
 }
 
@@ -51,39 +51,30 @@ fn is_full(m: &Machine, level: usize, position: usize) -> bool
     requires { (0 < level) × (level < 5) × (position < 16) }
     ensures { result ≡ is_full (view m.now) level position }
 {
-    if queues::request_count(m, level, position) < shape::queue_room(m) {
-        return false;
-    }
-    shape::wait_room(m) <= queues::wait_count(m, level, position)
+    shape::queue_room(m) <= queues::count::<Requests>(m, level, position)
+        && shape::wait_room(m) <= queues::wait_count(m, level, position)
 }
 
 // The message t arrives at a level and position; whether it could.
 fn arrive_at(m: &mut Machine, t: u8, level: usize, position: usize) -> bool
-    requires m_len { length m.old ≡ size }
-    requires may_arrive { MayArrive (view m.old) t level position }
+    requires { MayArrive (view m.old) t level position }
     ensures { Went (view m.old) t level position m.new result }
 {
     let q = shape::queue_room(m);
     let w = shape::wait_room(m);
-    let queue = queues::load_requests(m, level, position);
-    let waiting = queues::load_waits(m, level, position);
     let node = Node {
-        queue: queue,
-        waiting: waiting,
+        queue: queues::load::<Requests>(m, level, position),
+        waiting: queues::load_waits(m, level, position),
     };
     let arrived = node.arrive(m, t, q, w);
-    let outcome = arrived.outcome;
-    let after = arrived.node;
-    match outcome {
+    match arrived.outcome {
         Outcome::Refused => false,
         Outcome::Appended => {
-            let longer = after.queue;
-            queues::store_longer_requests(m, level, position, longer);
+            queues::store_longer_requests(m, level, position, arrived.node.queue);
             true
         }
         Outcome::Merged => {
-            let recorded = after.waiting;
-            queues::store_longer_waits(m, level, position, recorded);
+            queues::store_waits(m, level, position, arrived.node.waiting);
             shape::add_merge(m);
             true
         }

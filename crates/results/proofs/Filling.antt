@@ -37,3 +37,6 @@ module _ {f : ℕ → ℕ} {old : List ℕ} where
 pub filled-list : (new : List ℕ) {old l : List ℕ} {i : ℕ} → Filled (λ j. get_or new j 0) old l i → i ≡ length new → l ≡ over new old
 filled-list new {old} so_far e =
     filled-all so_far e ∙ ap (λ (a : List ℕ). over a old) (sym (below-is 0 (length new) (λ j. get_or new j 0) new refl (λ j h. refl)))
+
+-- what `copy_order` begins and ends with
+pub ruleset order_ends = (filled_none, filled-list)

@@ -1,2 +1,3 @@
 -- What only proofs and the contracts of inner functions need: no statement of a public function rests on it.
 pub mod Drains
+pub mod Steps

@@ -3,8 +3,9 @@
 
 ghost use Rattle.run.specs.Inner.Run.{items_in, Loading, ActsReady, ActsRun, RanTo};
 
+use event::Step;
 use store::Machine;
-use trace::acts::Due;
+use trace::acts::Act;
 use trace::{Facts, acts};
 
 // From the start to the end of the trace.
@@ -29,17 +30,21 @@ fn acts_from(trace: &[u8], from: usize, m: &mut Machine, words: &mut [u64; 256])
     ensures { ActsRun trace.now from m.old words.old m.new words.new }
 {
     let mut at = from;
-    loop {
-        let due = acts::act_at(trace, at);
-        match due {
-            Due::End => {
-                return;
-            }
-            Due::Event(what, level, position) => {
-                network::step(m, words, what, level as usize, position as usize);
+    while let Some(act) = acts::act_at(trace, at) {
+        match act {
+            Act::Event {
+                what,
+                level,
+                position,
+            } => {
+                // an accepted trace names steps that there are
+                let Ok(step) = Step::try_from(what) else {
+                    unreachable!()
+                };
+                network::step(m, words, step, level as usize, position as usize);
                 at += acts::EVENT_SIZE;
             }
-            Due::Drain(allowed) => {
+            Act::Drain(allowed) => {
                 rounds::drain(m, words, allowed);
                 // what follows could move nothing
                 if rounds::all_answered(m) {

@@ -3,7 +3,7 @@ use Prim.Native.Nat.{ℕ, suc, ◌≤◌}
 use mathlib.Core.Path.{◌≡◌, refl}
 use mathlib.Core.Logic.{◌≢◌}
 use mathlib.Core.List.{List, ◌∷◌}
-use mathlib.Core.Option.{Option, none, some}
+use Rattle.std.proofs.Common.{Option, None, Some}
 use lib.ListN.{length}
 use borrow.Author.Tests.{le-ltb}
 use Rattle.lists.specs.Search.{Found, absent, found}
@@ -23,8 +23,8 @@ arrive-full S n m h g = met (youngest S m.address n.queue)
     full = rw (le-ltb _ _ h)
 
     combined : (older : List (Message S)) (f : Message S) (younger : List (Message S)) (o : Option S.Operation) → combine S n m older f younger o ≡ refused
-    combined older f younger none = full
-    combined older f younger (some o) = rw (le-ltb _ _ g) full
+    combined older f younger None = full
+    combined older f younger (Some o) = rw (le-ltb _ _ g) full
 
     met : (f : Found (Message S)) → meet S n m f ≡ refused
     met absent = full

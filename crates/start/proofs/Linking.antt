@@ -2,7 +2,7 @@
 use Prim.Native.Nat.{ℕ, suc, ◌-◌, ◌≤◌, ◌<◌}
 use mathlib.Core.Path.{◌≡◌, refl, sym, ap, ◌∙◌}
 use mathlib.Core.Logic.{◌≢◌}
-use mathlib.Core.Bool.{Bool, true, false}
+use mathlib.Core.Bool.{Bool, false}
 use mathlib.Core.List.{List, [], ◌∷◌}
 use native.Mathlib.Decide.{ℕ_discrete}
 use native.Mathlib.Omega.{arith}
@@ -10,12 +10,12 @@ use lib.Dec.{eqb, ltb}
 use lib.ListN.{length, get_or}
 use borrow.Author.Tests.{eq-eqb, ne_eqb, le-ltb}
 use Rattle.lists.specs.Choice.{choose}
-use Rattle.lists.proofs.Tests.{by_cases, ltb-cases, eqb-some}
+use Rattle.lists.proofs.Tests.{by_cases, ltb-cases}
 use Rattle.lists.proofs.Tables.{update_same, update_other, update2-same, update2-level, update2-position}
 use Rattle.wiring.specs.Wiring.{module_of}
 use Rattle.wiring.specs.Inner.Path.{position_on}
 use Rattle.wiring.proofs.Laws.{position-engine, module-below}
-use Rattle.view.specs.Inner.View.{View, with_fixed, with_requests, shaped, linked}
+use Rattle.view.specs.Inner.View.{View, with_fixed, shaped}
 use Rattle.store.specs.Inner.Layout.{size}
 use Rattle.store.specs.Inner.Memory.{view, Becomes}
 use Rattle.shown.specs.Inner.Network.{Network, next_of, first_from}
@@ -147,9 +147,6 @@ linked-all x v all = record {
   quiet = all.quiet;
 }
 
-pub loaded-within : {m : List ℕ} {k q w count : ℕ} → RequestsLoaded m k q w count → count ≤ 256
-loaded-within loaded = omega (arith, loaded.requests.ranges.R-most, loaded.count-is)
-
 -- ---- the loop: from the machine m₀, where none are linked, to the machine m, where those from t on are
 pub record Linking (m₀ m : List ℕ) (count t : ℕ) : Type 0 where
   pub sized : length m ≡ size
@@ -157,18 +154,10 @@ pub record Linking (m₀ m : List ℕ) (count t : ℕ) : Type 0 where
   pub counted : (view m).fixed.count ≡ count
   pub links : (x : Network) → Linked x (view m₀) count → Linked x (view m) t
 
-module _ (m : List ℕ) (k q w count : ℕ) (loaded : RequestsLoaded m k q w count) (m₀ : List ℕ)
+module _ {m : List ℕ} {k q w count : ℕ} (loaded : RequestsLoaded m k q w count) {m₀ : List ℕ}
     (shaping : Becomes m₀ (with_fixed (view m) (shaped (view m).fixed k q w count))) where
-  pub linking-none : Linking m₀ m₀ count count
-  linking-none = record {
-    sized = shaping.sized;
-    within = omega arith;
-    counted = ap (λ (v : View). v.fixed.count) shaping.holds;
-    links = λ x none. none;
-  }
-
-  pub linking-all : (m' : List ℕ) → Linking m₀ m' count 0 → Started m k q w count m'
-  linking-all m' all = record {
+  pub linking-all : {m' : List ℕ} → Linking m₀ m' count 0 → Started m k q w count m'
+  linking-all {m'} all = record {
     sized = all.sized;
     at-start = λ x requests a b c d. linked-all x (view m') (every x requests a b c d);
     no-rounds = (every loaded.network loaded.requests loaded.k-is loaded.q-is loaded.w-is loaded.count-is).no-rounds;
@@ -177,8 +166,8 @@ module _ (m : List ℕ) (k q w count : ℕ) (loaded : RequestsLoaded m k q w cou
       every : (x : Network) → HasRequests x (view m) → k ≡ x.k → q ≡ x.Q → w ≡ x.W → count ≡ x.R → Linked x (view m') 0
       every x requests a b c d = all.links x (rw (shaping.holds, a, b, c, d) (linked-none x (view m) loaded.empty requests))
 
-pub linking-more : (m₀ m : List ℕ) (count t : ℕ) → Linking m₀ m count t → 0 < t → (m' : List ℕ) → LinkedTo (view m) (t - 1) m' → Linking m₀ m' count (t - 1)
-linking-more m₀ m count t so_far some m' more = record {
+pub linking-more : {m₀ m m' : List ℕ} {count t : ℕ} → Linking m₀ m count t → 0 < t → LinkedTo (view m) (t - 1) m' → Linking m₀ m' count (t - 1)
+linking-more {m = m} {t = t} so_far some more = record {
   sized = more.sized;
   within = omega arith;
   counted = ap (λ (v : View). v.fixed.count) more.links ∙ so_far.counted;
@@ -189,18 +178,6 @@ linking-more m₀ m count t so_far some m' more = record {
       rw more.links (linked-more x (view m) (t - 1) below (rw e at before));
 }
 
--- ---- one request, as it is stored
-module _ (v : View) (e : ℕ) {none : Bool} (told : none ≡ eqb (length (v.requests 0 e)) 0) where
-  pub first-none : none ≡ true → v.fixed.count ≡ first_in v e
-  first-none is = rw (sym told ∙ is)
-
-  pub first_some : none ≡ false → get_or (v.requests 0 e) 0 0 ≡ first_in v e
-  first_some is = rw (sym told ∙ is)
-
-  pub first-there : none ≡ false → 0 < length (v.requests 0 e)
-  first-there is = eqb-some (length (v.requests 0 e)) (sym told ∙ is)
-
-pub link-stored : (v v' v'' : View) (t e n : ℕ) → e ≡ position_on (v.fixed.path t) 0 → n ≡ first_in v e → v' ≡ with_fixed v (linked v.fixed t n) →
-    v'' ≡ with_requests v' 0 e (choose (ltb t v'.fixed.count) (t ∷ []) []) →
-    v'' ≡ with_linked v t (position_on (v.fixed.path t) 0)
-link-stored v v' v'' t e n engine next after first = first ∙ rw (after, next, engine)
+-- ---- an engine's first request, where it has one
+pub first_some : (v : View) (e : ℕ) {none : Bool} → none ≡ eqb (length (v.requests 0 e)) 0 → none ≡ false → get_or (v.requests 0 e) 0 0 ≡ first_in v e
+first_some v e told is = rw (sym told ∙ is)

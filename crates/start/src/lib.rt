@@ -1,8 +1,7 @@
 // The machine before the first event: its shape, each request's next of the same engine, and each engine's first.
 #![tactic(auto)]
 
-ghost use Rattle.std.specs.Prelude.{◌≡◌, ◌≤◌, ◌<◌, length};
-ghost use Rattle.store.specs.Inner.Layout.{size};
+ghost use Rattle.std.specs.Prelude.{◌≡◌, ◌≤◌, ◌<◌};
 ghost use Rattle.store.specs.Inner.Memory.{view};
 ghost use Rattle.start.specs.Inner.Linked.{RequestsLoaded, Started, LinkedTo, first_in};
 
@@ -14,17 +13,14 @@ pub fn start(m: &mut Machine, k: u64, q: u64, w: u64, count: usize)
     ensures { Started m.old k q w count m.new }
 {
     shape::set_shape(m, k, q, w, count);
-    let mut t = count;
-    while 0 < t {
-        t -= 1;
+    for t in (0..count).rev() {
         link(m, t);
     }
 }
 
 // The request t before its engine's requests behind it: the engine is the position of its path at level 0.
 fn link(m: &mut Machine, t: usize)
-    requires m_len { length m.old ≡ size }
-    requires t_bound { (t < 256) × ((view m.old).fixed.count ≤ 256) }
+    requires { (t < 256) × ((view m.old).fixed.count ≤ 256) }
     ensures { LinkedTo (view m.old) t m.new }
 {
     let e = tags::position_of(m, t as u8, 0);

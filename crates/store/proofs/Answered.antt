@@ -1,17 +1,20 @@
 -- Marks of requests and the order list: numbers side by side in the words of a region, read and written at one place.
-use Prim.Native.Nat.{ℕ, zero, suc, ◌+◌, ◌*◌, ◌/◌, ◌%◌, ◌^◌, ◌<◌}
+use Prim.Native.Nat.{ℕ, ◌+◌, ◌*◌, ◌/◌, ◌%◌, ◌^◌, ◌≤◌, ◌<◌}
 use mathlib.Core.Path.{◌≡◌, refl, sym, ap, ap₂, ◌∙◌}
 use mathlib.Core.Logic.{◌≢◌}
-use mathlib.Core.Bool.{Bool, true, false, not, false≢true}
+use mathlib.Core.Bool.{Bool, true, false, false≢true}
 use mathlib.Core.List.{List, [], ◌∷◌, ◌++◌}
 use native.Mathlib.Decide.{ℕ_discrete}
 use native.Mathlib.Nat.{div-add-mod'}
 use native.Mathlib.Numerals.{add-one}
 use native.Mathlib.Omega.{arith}
-use borrow.Author.Tests.{lt-ltb, eq-eqb, ne_eqb, eqb-true, eqb-false, not-true, not-false}
+use borrow.Author.Tests.{lt-ltb, eq-eqb, ne_eqb, eqb-true, eqb-false}
 use lib.Dec.{eqb}
-use lib.ListN.{length, get_or, set, length-set}
-use lib.Seq.{get_or-set_same, get_or-set_other}
+use lib.ListN.{length, get_or, set, take, drop, length-set, length-take, length-drop}
+use lib.Pointwise.{pointwise, bytes_decides}
+use lib.Seq.{get_or-set_same, get_or-set_other, get_or-take, get_or-drop}
+use Rattle.std.proofs.Common.{nat_eq}
+use Rattle.std.proofs.lemmas.Grind.{same_number_lists}
 use Rattle.lists.specs.Choice.{choose}
 use Rattle.lists.specs.Table.{update, list_below}
 use Rattle.lists.proofs.Tests.{by_cases, ltb-cases}
@@ -21,7 +24,7 @@ use Rattle.words.specs.Inner.Digits.{digit, byte_in, bit_in, Topped}
 use Rattle.words.proofs.Digits.{digit_lt, digits_same}
 use Rattle.view.specs.Inner.View.{with_answer, with_order}
 use Rattle.store.specs.Inner.Layout.{size, at_every, at_answered, at_ordered, at_order}
-use Rattle.store.specs.Inner.Memory.{marks_at, bytes_at, fixed_in, order_in, view, Becomes, Same, SameMarks}
+use Rattle.store.specs.Inner.Memory.{marks_at, bytes_at, fixed_in, order_in, view, Becomes, Same}
 use Rattle.store.proofs.Columns.{tags-changed}
 use Rattle.store.proofs.Regions.{becomes}
 
@@ -131,9 +134,6 @@ same-mark a b f g e =
     (λ (p : a ≡ 1). p ∙ sym (eqb-true b 1 (sym e ∙ eq-eqb a 1 p)))
     (λ (p : a ≢ 1). let q : b ≢ 1 = eqb-false b 1 (sym e ∙ ne_eqb a 1 p) in omega arith)
 
-pub marks-decide : (a b : ℕ) → a < 2 ^ 64 → b < 2 ^ 64 → SameMarks a b (eqb a b)
-marks-decide a b f g = record { same = eqb-true a b; differ = λ e h. eqb-false a b e (digits_same 1 64 a b f g h) }
-
 module _ (m : List ℕ) where
   abbrev answers : ℕ → ℕ
   answers j = get_or m (at_answered + j) 0
@@ -149,9 +149,6 @@ module _ (m : List ℕ) where
       let e = sym (answered-here m (j * 64 + i) (omega arith)) ∙ h (j * 64 + i) ∙ every_here m (j * 64 + i) (omega arith) in
       same-mark _ _ (digit_lt 1 (answers j) i) (digit_lt 1 (requests j) i) (rw (q, r) at e)
 
-  pub not-all : (j : ℕ) {r : Bool} → j < 4 → SameMarks (answers j) (requests j) r → not r ≡ true → Same (view m).answered (view m).fixed.every false
-  not-all j {r} l d e = record { same = λ z. absurd (false≢true z); differ = λ _ h. d.differ (not-true r e) (alike-within h j l) }
-
   -- where all words are the same, so are all marks
   alike : ((j : ℕ) → j < 4 → answers j ≡ requests j) → (t : ℕ) → (view m).answered t ≡ (view m).fixed.every t
   unfolding view fixed_in
@@ -159,16 +156,34 @@ module _ (m : List ℕ) where
       ltb-cases (λ c. choose c (eqb (bit_in (answers (t / 64)) (t % 64)) 1) false ≡ choose c (eqb (bit_in (requests (t / 64)) (t % 64)) 1) false) t 256
       (λ l. rw (h (t / 64) (omega arith))) (λ _. refl)
 
-  four : answers 0 ≡ requests 0 → answers 1 ≡ requests 1 → answers 2 ≡ requests 2 → answers 3 ≡ requests 3 → (j : ℕ) → j < 4 → answers j ≡ requests j
-  four a b c d zero l = a
-  four a b c d (suc zero) l = b
-  four a b c d (suc (suc zero)) l = c
-  four a b c d (suc (suc (suc zero))) l = d
-  four a b c d (suc (suc (suc (suc j)))) l = absurd (omega arith)
+  -- the four words of a region
+  abbrev four_at : ℕ → List ℕ
+  four_at from = take 4 (drop from m)
 
-  pub last-decides : {p q r s : Bool} → SameMarks (answers 0) (requests 0) p → not p ≡ false → SameMarks (answers 1) (requests 1) q → not q ≡ false →
-      SameMarks (answers 2) (requests 2) r → not r ≡ false → SameMarks (answers 3) (requests 3) s → Same (view m).answered (view m).fixed.every s
-  last-decides {p} {q} {r} a e b f c g d = record {
-    same = λ z. alike (four (a.same (not-false p e)) (b.same (not-false q f)) (c.same (not-false r g)) (d.same z));
-    differ = λ z h. d.differ z (alike-within h 3 (omega arith));
-  }
+  four-long : length m ≡ size → (from : ℕ) → from + 4 ≤ size → length (four_at from) ≡ 4
+  four-long fits from l = length-take 4 (drop from m) ∙ (rw length-drop (omega arith))
+
+  four-here : (from j : ℕ) → j < 4 → get_or (four_at from) j 0 ≡ get_or m (from + j) 0
+  four-here from j l = get_or-take 4 (drop from m) j 0 l ∙ get_or-drop from m j 0
+
+  four-same : length m ≡ size → ((j : ℕ) → j < 4 → answers j ≡ requests j) → four_at at_answered ≡ four_at at_every
+  four-same fits h =
+      let a = four-long fits at_answered (omega arith) in
+      same_number_lists (four_at at_answered) (four_at at_every) (a ∙ sym (four-long fits at_every (omega arith)))
+      (λ j l. four-here at_answered j (omega arith) ∙ h j (omega arith) ∙ sym (four-here at_every j (omega arith)))
+
+  -- every request is answered just where the words of marks are the same
+  pub all-told : length m ≡ size → ((i : ℕ) → get_or m i 0 < 2 ^ 64) → {r : Bool} → r ≡ pointwise nat_eq (four_at at_answered) (four_at at_every) →
+      Same (view m).answered (view m).fixed.every r
+  all-told fits small e =
+      let told = bytes_decides (four_at at_answered) (four_at at_every) in
+      record {
+        same = λ z.
+            let words = told.0 (sym e ∙ z) in
+            alike (λ j l. sym (four-here at_answered j l) ∙ ap (λ (l : List ℕ). get_or l j 0) words ∙ four-here at_every j l);
+        differ = λ z h. false≢true (sym z ∙ e ∙ told.1 (four-same fits (λ j l.
+            digits_same 1 64 (answers j) (requests j) (small (at_answered + j)) (small (at_every + j)) (alike-within h j l))));
+      }
+
+-- ---- what the functions cite
+pub ruleset order_reads = (order-length, order-here, answered-here, answered-none, all-told)

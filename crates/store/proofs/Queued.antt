@@ -22,6 +22,7 @@ use Rattle.queue.specs.Inner.Queue.{tags_in, pairs_in, tags_of}
 use Rattle.view.specs.Inner.View.{with_requests, with_replies, with_waits, with_reply}
 use Rattle.store.specs.Inner.Layout.{size, at_count, at_request_lengths, at_reply_lengths, at_wait_lengths, at_requests, at_replies, at_firsts, at_seconds}
 use Rattle.store.specs.Inner.Memory.{grid_at, lengths_at, requests_at, buffers_at, fixed_in, view, Becomes, RowOf}
+use Rattle.store.specs.Inner.Kinds.{Kind, requests, replies, lengths_of, words_of, lowest, queues_in, with_queue}
 use Rattle.store.proofs.Grid.{grid-here, grid-changed}
 use Rattle.store.proofs.Held.{Reading, as_tags, alone, as_requests, held_at, requests-held, requests-above, Told, tags-told}
 use Rattle.store.proofs.Held.{alone-first, requests-none, requests-told}
@@ -52,23 +53,13 @@ module _ (m : List ℕ) (level position : ℕ) (on : (level < 5) × (position < 
   unfolding view
   waits-here = grid-here _ on.0 on.1
 
-  pub requests-length : 0 < level → length ((view m).requests level position) ≡ lengths_at at_request_lengths m level position
-  requests-length a = ap length (requests-here a) ∙ length-down _ _
-
-  pub replies-length : length ((view m).replies level position) ≡ lengths_at at_reply_lengths m level position
+  replies-length : length ((view m).replies level position) ≡ lengths_at at_reply_lengths m level position
   replies-length = ap length replies-here ∙ length-down _ _
 
   pub waits-length : length ((view m).waits level position) ≡ lengths_at at_wait_lengths m level position
   waits-length = ap length waits-here ∙ length-below _ _
 
-  -- as they are loaded
-  pub requests-is : 0 < level → (n : ℕ) → n ≡ length ((view m).requests level position) →
-      tags_in (grid_at at_requests m level position) n ≡ (view m).requests level position
-  requests-is a n e = ap (λ (k : ℕ). tags_in (grid_at at_requests m level position) k) (e ∙ requests-length a) ∙ sym (requests-here a)
-
-  pub replies-is : (n : ℕ) → n ≡ length ((view m).replies level position) → tags_in (grid_at at_replies m level position) n ≡ (view m).replies level position
-  replies-is n e = ap (λ (k : ℕ). tags_in (grid_at at_replies m level position) k) (e ∙ replies-length) ∙ sym replies-here
-
+  -- as it is loaded
   pub waits-is : (n : ℕ) → n ≡ length ((view m).waits level position) →
       pairs_in (grid_at at_firsts m level position) (grid_at at_seconds m level position) n ≡ (view m).waits level position
   waits-is n e = ap (λ (k : ℕ). pairs_in (grid_at at_firsts m level position) (grid_at at_seconds m level position) k) (e ∙ waits-length) ∙ sym waits-here
@@ -249,6 +240,46 @@ module _ (m : List ℕ) (fits : length m ≡ size) (level position : ℕ) (on : 
       (replies-here m level position on) w v _ (suc n)
       (ap suc (reply-count-kept w ∙ replies-length m level position on)) e))
 
+-- ---- the same of either kind of queue
+
+-- its words stand behind its lengths, and both in the array
+pub placed : (k : Kind) → (lengths_of k + 5 ≤ words_of k) × (words_of k + 80 ≤ size)
+placed requests = omega arith
+placed replies = omega arith
+
+pub kind-row : (k : Kind) (m : List ℕ) (level : ℕ) → level < 5 → RowOf (queues_in k (view m) level) (get_or m (lengths_of k + level) 0)
+kind-row requests = request-row
+kind-row replies = reply-row
+
+module _ (k : Kind) (m : List ℕ) (level position : ℕ) (on : (lowest k ≤ level) × (level < 5) × (position < 16)) where
+  abbrev kind_word : ℕ
+  kind_word = grid_at (words_of k) m level position
+
+  abbrev kind_length : ℕ
+  kind_length = lengths_at (lengths_of k) m level position
+
+  kind-here : queues_in k (view m) level position ≡ tags_in kind_word kind_length
+  kind-here = go k on
+    where
+      go : (k : Kind) → (lowest k ≤ level) × (level < 5) × (position < 16) →
+          queues_in k (view m) level position ≡ tags_in (grid_at (words_of k) m level position) (lengths_at (lengths_of k) m level position)
+      go requests o = requests-here m level position (o.1, o.2) o.0
+      go replies o = replies-here m level position (o.1, o.2)
+
+  pub kind-length : length (queues_in k (view m) level position) ≡ kind_length
+  kind-length = ap length kind-here ∙ length-down _ _
+
+  -- as it is loaded
+  pub kind-is : (n : ℕ) → n ≡ length (queues_in k (view m) level position) → tags_in kind_word n ≡ queues_in k (view m) level position
+  kind-is n e = ap (λ (n : ℕ). tags_in kind_word n) (e ∙ kind-length) ∙ sym kind-here
+
+pub kind-popped : (k : Kind) (m : List ℕ) → length m ≡ size → (level position : ℕ) → (lowest k ≤ level) × (level < 5) × (position < 16) →
+    (v : ℕ) → 0 < length (queues_in k (view m) level position) →
+    length_in v ≡ update (length_in (get_or m (lengths_of k + level) 0)) position (length_in (get_or m (lengths_of k + level) 0) position - 1) →
+    Becomes (set m (lengths_of k + level) v) (with_queue k (view m) level position (drop 1 (queues_in k (view m) level position)))
+kind-popped requests m fits level position on = request-popped m fits level position (on.1, on.2) on.0
+kind-popped replies m fits level position on = reply-popped m fits level position (on.1, on.2)
+
 -- ---- the engine's next request, at level 0
 
 module _ (m : List ℕ) (e : ℕ) (b : e < 16) where
@@ -315,9 +346,6 @@ module _ (m : List ℕ) (fits : length m ≡ size) (level position : ℕ) (on : 
   same_row : get_or m₂ at_length 0 ≡ get_or m at_length 0
   same_row = get_or-set_other m₁ at_second at_length s 0 (omega arith) ∙ get_or-set_other m at_first at_length f 0 (omega arith)
 
-  pub wait-count-kept : length_in (get_or m₂ at_length 0) position ≡ length ((view m).waits level position)
-  wait-count-kept = ap (λ (x : ℕ). length_in x position) same_row ∙ sym (waits-length m level position on)
-
   module _ (v k n : ℕ) (z : k ≡ n) (e : length_in v ≡ update (length_in (get_or m₂ at_length 0)) position k) where
     abbrev m₃ : List ℕ
     m₃ = set m₂ at_length v
@@ -351,3 +379,8 @@ module _ (m : List ℕ) (fits : length m ≡ size) (level position : ℕ) (on : 
     waits-stored =
         becomes at_wait_lengths 5 at_firsts 160 m m₃ (λ k x y. away k (λ z. y (omega arith)) (λ z. y (omega arith)) (λ z. x (omega arith)))
         (rw (length-set, length-set, length-set) fits) (rw buffers-changed)
+
+-- ---- what the functions cite
+pub ruleset queue_reads = (kind-length, kind-is, kind-row, held-length, waits-length, request-none, waits-is, next-is)
+
+pub ruleset queue_lengths = (kind-length, request-count-kept, reply-count-kept, next-first, next-again)

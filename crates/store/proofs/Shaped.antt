@@ -1,15 +1,15 @@
 -- The shape, the marks of the requests that there are, and the counts of a run: written.
-use Prim.Native.Nat.{ℕ, zero, suc, ◌+◌, ◌-◌, ◌*◌, ◌/◌, ◌%◌, ◌≤◌, ◌<◌, min}
-use mathlib.Core.Path.{◌≡◌, refl, sym, ap, ◌∙◌, fun_ext}
+use Prim.Native.Nat.{ℕ, suc, ◌+◌, ◌-◌, ◌*◌, ◌/◌, ◌%◌, ◌≤◌, ◌<◌, min}
+use mathlib.Core.Path.{◌≡◌, refl, sym, ◌∙◌, fun_ext}
 use mathlib.Core.Bool.{false}
-use mathlib.Core.List.{List, [], ◌∷◌, ◌++◌}
+use mathlib.Core.List.{List}
 use native.Mathlib.Decide.{dec_lt}
 use native.Mathlib.Numerals.{add-one}
 use native.Mathlib.Omega.{arith}
 use borrow.Author.Tests.{lt-ltb, le-ltb}
 use lib.Dec.{eqb, ltb}
-use lib.ListN.{length, get_or, set, drop, length-set}
-use lib.Seq.{sets, sets-eq, length-sets, get_or-append-add, get_or-drop, get_or-set_same, get_or-set_other}
+use lib.ListN.{length, get_or, set, length-set}
+use lib.Seq.{get_or-set_same, get_or-set_other}
 use Rattle.lists.specs.Choice.{choose}
 use Rattle.lists.proofs.Tests.{by_cases, ltb-cases}
 use Rattle.words.specs.Inner.Digits.{bit_in, LowBits}
@@ -49,59 +49,46 @@ module _ (m : List ℕ) (fits : length m ≡ size) where
 -- ---- the shape, and a mark for each request
 
 -- the word of marks that a request's mark stands in
-mark-below : (count j w t : ℕ) → LowBits (min 64 (count - j * 64)) w → t / 64 ≡ j → eqb (bit_in w (t % 64)) 1 ≡ ltb t count
+mark-below : (count j w t : ℕ) → LowBits (min (count - j * 64) 64) w → t / 64 ≡ j → eqb (bit_in w (t % 64)) 1 ≡ ltb t count
 mark-below count j w t b e =
     rw (b.marks (t % 64))
-    (ltb-cases (λ c. eqb (choose c 1 0) 1 ≡ ltb t count) (t % 64) (min 64 (count - j * 64))
+    (ltb-cases (λ c. eqb (choose c 1 0) 1 ≡ ltb t count) (t % 64) (min (count - j * 64) 64)
     (λ l. sym (lt-ltb t count (omega arith))) (λ l. sym (le-ltb t count (omega arith))))
 
-module _ (m : List ℕ) (fits : length m ≡ size) (k q w count a b c d : ℕ) (small : count ≤ 256) where
-  abbrev first : List ℕ
-  first = k ∷ q ∷ w ∷ count ∷ a ∷ b ∷ c ∷ d ∷ []
+-- the words so far: the shape, and the marks of the words below the i-th
+pub record Shaping (m₀ : List ℕ) (k q w count : ℕ) (m : List ℕ) (i : ℕ) : Type 0 where
+  pub sized : length m ≡ size
+  pub k-is : get_or m at_k 0 ≡ k
+  pub q-is : get_or m at_q 0 ≡ q
+  pub w-is : get_or m at_w 0 ≡ w
+  pub count-is : get_or m at_count 0 ≡ count
+  pub marked : (j : ℕ) → j < i → LowBits (min (count - j * 64) 64) (get_or m (at_every + j) 0)
+  pub beyond : (j : ℕ) → 8 ≤ j → get_or m j 0 ≡ get_or m₀ j 0
 
-  abbrev m' : List ℕ
-  m' = sets m 0 first
+module _ {m₀ : List ℕ} {k q w count : ℕ} {m : List ℕ} {i : ℕ} (S : Shaping m₀ k q w count m i) where
+  module _ (small : count ≤ 256) (all : i ≡ 4) where
+    marks : marks_at at_every m ≡ (λ t. ltb t count)
+    marks = fun_ext (λ t. ltb-cases (λ b. choose b (eqb (bit_in (get_or m (at_every + t / 64) 0) (t % 64)) 1) false ≡ ltb t count) t 256
+        (λ l. mark-below count (t / 64) (get_or m (at_every + t / 64) 0) t (S.marked (t / 64) (omega arith)) refl)
+        (λ l. sym (le-ltb t count (omega arith))))
 
-  module _ (la : LowBits (min 64 (count - 0)) a) (lb : LowBits (min 64 (count - 64)) b)
-      (lc : LowBits (min 64 (count - 128)) c) (ld : LowBits (min 64 (count - 192)) d) where
-    every : (t j : ℕ) → t < 256 → t / 64 ≡ j → eqb (bit_in (get_or (first ++ drop 8 m) (4 + j) 0) (t % 64)) 1 ≡ ltb t count
-    every t zero l e = mark-below count 0 a t la e
-    every t (suc zero) l e = mark-below count 1 b t lb e
-    every t (suc (suc zero)) l e = mark-below count 2 c t lc e
-    every t (suc (suc (suc zero))) l e = mark-below count 3 d t ld e
-    every t (suc (suc (suc (suc j)))) l e = absurd (omega arith)
+    kept_beyond : Kept at_k 8 at_k 8 m₀ m
+    kept_beyond j f g = by_cases (dec_lt j 8) (λ (l : j < 8). absurd (f (omega arith))) (λ (l : ¬ (j < 8)). S.beyond j (omega arith))
 
-    is : m' ≡ first ++ drop 8 m
-    is = sets-eq first m 0 (omega arith)
-
-    beyond : Kept at_k 8 at_k 8 m m'
-    beyond i f g =
-        by_cases (dec_lt i 8) (λ (l : i < 8). absurd (f (omega arith)))
-        (λ (l : ¬ (i < 8)).
-        let e : 8 + (i - 8) ≡ i = omega arith in
-        rw e at (ap (λ (l : List ℕ). get_or l (8 + (i - 8)) 0) is ∙ get_or-append-add first (drop 8 m) (i - 8) 0 ∙ get_or-drop 8 m (i - 8) 0))
-
-    word : (i : ℕ) → get_or m' i 0 ≡ get_or (first ++ drop 8 m) i 0
-    word i = ap (λ (l : List ℕ). get_or l i 0) is
-
-    marks : marks_at at_every m' ≡ (λ t. ltb t count)
-    marks = fun_ext (λ t. ltb-cases (λ b. choose b (eqb (bit_in (get_or m' (at_every + t / 64) 0) (t % 64)) 1) false ≡ ltb t count) t 256
-        (λ l. rw (word (at_every + t / 64)) (every t (t / 64) l refl)) (λ l. sym (le-ltb t count (omega arith))))
-
-    fixed-is : (view m').fixed ≡ shaped (view m).fixed k q w count
+    fixed-is : (view m).fixed ≡ shaped (view m₀).fixed k q w count
     unfolding view fixed_in
     fixed-is =
-        let heads = column-same m m' at_heads (λ i h. beyond i (λ z. omega arith) (λ z. omega arith)) in
+        let heads = column-same m₀ m at_heads (λ i h. S.beyond i (omega arith)) in
         λ i. record {
-          k = word at_k i;
-          q = word at_q i;
-          w = word at_w i;
-          count = word at_count i;
+          k = S.k-is i;
+          q = S.q-is i;
+          w = S.w-is i;
+          count = S.count-is i;
           every = marks i;
           address = λ t. address_of (heads i t);
           path = λ t. path_of (heads i t);
           after = λ t. after_of (heads i t);
         }
 
-    pub shape-set : Becomes m' (with_fixed (view m) (shaped (view m).fixed k q w count))
-    shape-set = becomes at_k 8 at_k 8 m m' beyond (rw (length-sets m 0 first) fits) (rw fixed-is)
+    pub shaping-ends : Becomes m (with_fixed (view m₀) (shaped (view m₀).fixed k q w count))
+    shaping-ends = becomes at_k 8 at_k 8 m₀ m kept_beyond S.sized (rw fixed-is)

@@ -201,3 +201,6 @@ module _ (m : List ℕ) (fits : length m ≡ size) (t : ℕ) (l : t < 256) where
       let head : Head h x.code (address_of old) (path_of old) (after_of old) = rw g (head-coded old x.code (code_below f x e)) in
       subst (λ (y : Words). Becomes (three m t h x.first x.second) (with_carried (view m) t y)) e
       (rw (address-idle, path-idle, after-idle) at (tag-written m _ t h x.first x.second l (three-written h x.first x.second) head))
+
+-- ---- what the functions cite
+pub ruleset tag_reads = (address-here, path-here, after-here, carried_here)

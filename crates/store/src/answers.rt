@@ -1,11 +1,11 @@
 // Which requests are answered, and the order list.
 ghost use Rattle.std.specs.Prelude.{◌≡◌, false, [], ◌∷◌, ◌<◌, length, get_or};
 ghost use Rattle.view.specs.Inner.View.{with_answer, with_order};
-ghost use Rattle.store.specs.Inner.Layout.{size};
-ghost use Rattle.store.specs.Inner.Memory.{view, Becomes, Same, SameMarks};
+ghost use Rattle.store.specs.Inner.Memory.{view, Becomes, Same};
 
 use super::{ANSWERED, EVERY, Machine, ORDER, ORDERED};
 
+#[tactic(auto, using(crate::proofs::Answered::order_reads))]
 pub fn is_answered(m: &Machine, t: usize) -> bool
     requires { t < 256 }
     ensures { result ≡ (view m.now).answered t }
@@ -14,9 +14,9 @@ pub fn is_answered(m: &Machine, t: usize) -> bool
 }
 
 // Of a request that is not answered yet.
+#[tactic(auto, using(crate::proofs::Answered::order_reads))]
 pub fn set_answered(m: &mut Machine, t: u8)
-    requires m_len { length m.old ≡ size }
-    requires t_value { (view m.old).answered t ≡ false }
+    requires { (view m.old).answered t ≡ false }
     ensures { Becomes m.new (with_answer (view m.old) t) }
 {
     let i = t as usize;
@@ -25,31 +25,17 @@ pub fn set_answered(m: &mut Machine, t: u8)
 }
 
 // "every request is answered"
+#[tactic(auto, using(crate::proofs::Answered::order_reads))]
 pub fn all_answered(m: &Machine) -> bool
     ensures { Same (view m.now).answered (view m.now).fixed.every result }
 {
-    if !same_marks(m[ANSWERED], m[EVERY]) {
-        return false;
-    }
-    if !same_marks(m[ANSWERED + 1], m[EVERY + 1]) {
-        return false;
-    }
-    if !same_marks(m[ANSWERED + 2], m[EVERY + 2]) {
-        return false;
-    }
-    same_marks(m[ANSWERED + 3], m[EVERY + 3])
-}
-
-fn same_marks(a: u64, b: u64) -> bool
-    ensures { SameMarks a b result }
-{
-    a == b
+    m[ANSWERED..ANSWERED + 4] == m[EVERY..EVERY + 4]
 }
 
 // One tag more at the end of the order list.
+#[tactic(auto, using(crate::proofs::Answered::order_reads))]
 pub fn append_order(m: &mut Machine, t: u8)
-    requires m_len { length m.old ≡ size }
-    requires m_len_bound { length (view m.old).order < 256 }
+    requires { length (view m.old).order < 256 }
     ensures { Becomes m.new (with_order (view m.old) (t ∷ [])) }
 {
     let n = m[ORDERED] as usize;
@@ -58,6 +44,7 @@ pub fn append_order(m: &mut Machine, t: u8)
     m[ORDERED] = n as u64 + 1;
 }
 
+#[tactic(auto, using(crate::proofs::Answered::order_reads))]
 pub fn order_at(m: &Machine, i: usize) -> u8
     requires i_bound { i < 256 }
     requires i_in_bounds { i < length (view m.now).order }

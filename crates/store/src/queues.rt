@@ -1,9 +1,9 @@
 // Queues and wait buffers by level and position.
-ghost use Rattle.std.specs.Prelude.{◌≡◌, [], ◌∷◌, suc, ◌≤◌, ◌<◌, eqb, ltb, length, get_or, drop};
+ghost use Rattle.std.specs.Prelude.{◌≡◌, refl, ℕ, [], ◌∷◌, suc, ◌≤◌, ◌<◌, eqb, ltb, length, get_or, drop};
 ghost use Rattle.lists.specs.Choice.{choose};
+ghost use Rattle.store.specs.Inner.Kinds.{Kind, requests, replies, lengths_of, words_of, lowest, queues_in, with_queue};
 ghost use Rattle.view.specs.Inner.View.{with_requests, with_replies, with_reply, with_waits};
 ghost use Rattle.queue.specs.Inner.Queue.{tags_of, pairs_of, HeldTags, HeldPairs};
-ghost use Rattle.store.specs.Inner.Layout.{size};
 ghost use Rattle.store.specs.Inner.Memory.{view, Becomes, RowOf};
 
 use super::{
@@ -12,22 +12,114 @@ use super::{
 };
 use queue::{Pairs, Tags};
 
-// ---- how long they are
+// A kind of queue: where its words of tags and its rows of lengths stand.
+pub trait Queues {
+    const LENGTHS: usize;
 
-pub fn request_count(m: &Machine, level: usize, position: usize) -> usize
-    requires { (0 < level) × (level < 5) × (position < 16) }
-    ensures { (result ≡ length ((view m.now).requests level position)) × (result < 16) }
-{
-    words::length_in(m[REQUEST_LENGTHS + level], position)
+    const WORDS: usize;
+
+    ghost LENGTHS: { ℕ };
+
+    ghost WORDS: { ℕ };
+
+    ghost kind: { Kind };
+
+    ghost placed: { (LENGTHS ≡ lengths_of kind) × (WORDS ≡ words_of kind) };
 }
 
-pub fn reply_count(m: &Machine, level: usize, position: usize) -> usize
-    requires { (level < 5) × (position < 16) }
-    ensures { (result ≡ length ((view m.now).replies level position)) × (result < 16) }
-{
-    words::length_in(m[REPLY_LENGTHS + level], position)
+// Message queues: at level 0 the engines' next requests.
+#[derive(Clone, Copy)]
+pub struct Requests;
+
+impl Queues for Requests {
+    const LENGTHS: usize = REQUEST_LENGTHS;
+
+    const WORDS: usize = REQUESTS;
+
+    ghost LENGTHS = { lengths_of requests };
+
+    ghost WORDS = { words_of requests };
+
+    ghost kind = { requests };
+
+    ghost placed = { (refl, refl) };
 }
 
+// Reply queues.
+#[derive(Clone, Copy)]
+pub struct Replies;
+
+impl Queues for Replies {
+    const LENGTHS: usize = REPLY_LENGTHS;
+
+    const WORDS: usize = REPLIES;
+
+    ghost LENGTHS = { lengths_of replies };
+
+    ghost WORDS = { words_of replies };
+
+    ghost kind = { replies };
+
+    ghost placed = { (refl, refl) };
+}
+
+// ---- one kind of queue
+
+// How long a queue is.
+#[tactic(auto, using(crate::proofs::Queued::queue_reads))]
+pub fn count<T: Queues>(m: &Machine, level: usize, position: usize) -> usize
+    requires { (lowest T.kind ≤ level) × (level < 5) × (position < 16) }
+    ensures { (result ≡ length (queues_in T.kind (view m.now) level position)) × (result < 16) }
+{
+    words::length_in(m[T::LENGTHS + level], position)
+}
+
+// A level's row: a length for each position, 0 where the queue is empty.
+#[tactic(auto, using(crate::proofs::Queued::queue_reads))]
+pub fn row<T: Queues>(m: &Machine, level: usize) -> u64
+    requires { level < 5 }
+    ensures { RowOf (queues_in T.kind (view m.now) level) result }
+{
+    m[T::LENGTHS + level]
+}
+
+// A queue by value.
+#[tactic(auto, using(crate::proofs::Queued::queue_reads))]
+pub fn load<T: Queues>(m: &Machine, level: usize, position: usize) -> Tags
+    requires level_bound { (lowest T.kind ≤ level) × (level < 5) × (position < 16) }
+    requires position_len_bound { length (queues_in T.kind (view m.now) level position) ≤ 8 }
+    ensures { (tags_of result ≡ queues_in T.kind (view m.now) level position) × HeldTags result }
+{
+    Tags {
+        items: m[T::WORDS + (level * 16 + position)],
+        len: count::<T>(m, level, position),
+    }
+}
+
+// The oldest of a queue that is not empty.
+#[tactic(auto, using(crate::proofs::Queued::queue_reads))]
+pub fn oldest<T: Queues>(m: &Machine, level: usize, position: usize) -> u8
+    requires level_bound { (lowest T.kind ≤ level) × (level < 5) × (position < 16) }
+    requires nonzero { (0 < length (queues_in T.kind (view m.now) level position)) × (length (queues_in T.kind (view m.now) level position) ≤ 8) }
+    ensures { result ≡ get_or (queues_in T.kind (view m.now) level position) 0 0 }
+{
+    load::<T>(m, level, position).oldest()
+}
+
+// The oldest goes with the length alone.
+#[tactic(auto, using(crate::proofs::Queued::queue_lengths))]
+pub fn pop<T: Queues>(m: &mut Machine, level: usize, position: usize)
+    requires level_bound { (lowest T.kind ≤ level) × (level < 5) × (position < 16) }
+    requires nonzero { 0 < length (queues_in T.kind (view m.old) level position) }
+    ensures { Becomes m.new (with_queue T.kind (view m.old) level position (drop 1 (queues_in T.kind (view m.old) level position))) }
+{
+    let row = T::LENGTHS + level;
+    m[row] = words::one_less(m[row], position);
+}
+
+// ---- wait buffers, whose records have two tags, and what one kind of queue alone has
+
+#[tactic(auto, using(crate::proofs::Queued::queue_reads))]
 pub fn wait_count(m: &Machine, level: usize, position: usize) -> usize
     requires { (level < 5) × (position < 16) }
     ensures { (result ≡ length ((view m.now).waits level position)) × (result < 16) }
@@ -35,7 +127,8 @@ pub fn wait_count(m: &Machine, level: usize, position: usize) -> usize
     words::length_in(m[WAIT_LENGTHS + level], position)
 }
 
-// Whether there is no request, at level 0 none to issue.
+// Whether there is no request, at level 0 none to issue: `count` leaves level 0 out, where the queue is one request.
+#[tactic(auto, using(crate::proofs::Queued::queue_reads))]
 pub fn no_request(m: &Machine, level: usize, position: usize) -> bool
     requires { (level < 5) × (position < 16) }
     ensures { result ≡ eqb (length ((view m.now).requests level position)) 0 }
@@ -43,45 +136,9 @@ pub fn no_request(m: &Machine, level: usize, position: usize) -> bool
     words::length_in(m[REQUEST_LENGTHS + level], position) == 0
 }
 
-// A level's row of requests: a length for each position, 0 where there is none.
-pub fn request_row(m: &Machine, level: usize) -> u64
-    requires { level < 5 }
-    ensures { RowOf ((view m.now).requests level) result }
-{
-    m[REQUEST_LENGTHS + level]
-}
-
-pub fn reply_row(m: &Machine, level: usize) -> u64
-    requires { level < 5 }
-    ensures { RowOf ((view m.now).replies level) result }
-{
-    m[REPLY_LENGTHS + level]
-}
-
 // ---- by value
 
-pub fn load_requests(m: &Machine, level: usize, position: usize) -> Tags
-    requires level_nonzero { (0 < level) × (level < 5) × (position < 16) }
-    requires position_len_bound { length ((view m.now).requests level position) ≤ 8 }
-    ensures { (tags_of result ≡ (view m.now).requests level position) × HeldTags result }
-{
-    Tags {
-        items: m[REQUESTS + (level * 16 + position)],
-        len: request_count(m, level, position),
-    }
-}
-
-pub fn load_replies(m: &Machine, level: usize, position: usize) -> Tags
-    requires level_bound { (level < 5) × (position < 16) }
-    requires position_len_bound { length ((view m.now).replies level position) ≤ 8 }
-    ensures { (tags_of result ≡ (view m.now).replies level position) × HeldTags result }
-{
-    Tags {
-        items: m[REPLIES + (level * 16 + position)],
-        len: reply_count(m, level, position),
-    }
-}
-
+#[tactic(auto, using(crate::proofs::Queued::queue_reads))]
 pub fn load_waits(m: &Machine, level: usize, position: usize) -> Pairs
     requires level_bound { (level < 5) × (position < 16) }
     requires position_len_bound { length ((view m.now).waits level position) ≤ 8 }
@@ -96,8 +153,8 @@ pub fn load_waits(m: &Machine, level: usize, position: usize) -> Pairs
 }
 
 // A queue with one request more than it had: its row of lengths goes up by one.
+#[tactic(auto, using(crate::proofs::Queued::queue_lengths))]
 pub fn store_longer_requests(m: &mut Machine, level: usize, position: usize, queue: Tags)
-    requires m_len { length m.old ≡ size }
     requires level_nonzero { (0 < level) × (level < 5) × (position < 16) }
     requires held_tags { HeldTags queue × (queue.len ≡ suc (length ((view m.old).requests level position))) }
     ensures { Becomes m.new (with_requests (view m.old) level position (tags_of queue)) }
@@ -107,75 +164,23 @@ pub fn store_longer_requests(m: &mut Machine, level: usize, position: usize, que
     m[row] = words::one_more(m[row], position);
 }
 
-// A wait buffer with one record more than it had.
-pub fn store_longer_waits(m: &mut Machine, level: usize, position: usize, waits: Pairs)
-    requires m_len { length m.old ≡ size }
+// A wait buffer by value: two words, and their length.
+pub fn store_waits(m: &mut Machine, level: usize, position: usize, waits: Pairs)
     requires level_bound { (level < 5) × (position < 16) }
-    requires len_bound { (waits.len ≤ 8) × (waits.len ≡ suc (length ((view m.old).waits level position))) }
+    requires held_pairs { HeldPairs waits }
     ensures { Becomes m.new (with_waits (view m.old) level position (pairs_of waits)) }
 {
     let at = level * 16 + position;
     m[FIRSTS + at] = waits.firsts;
     m[SECONDS + at] = waits.seconds;
     let row = WAIT_LENGTHS + level;
-    m[row] = words::one_more(m[row], position);
+    m[row] = words::with_length(m[row], position, waits.len);
 }
 
-// A wait buffer with one record less.
-pub fn store_shorter_waits(m: &mut Machine, level: usize, position: usize, waits: Pairs)
-    requires m_len { length m.old ≡ size }
-    requires level_bound { (level < 5) × (position < 16) }
-    requires len_bound { (waits.len ≤ 8) × (suc waits.len ≡ length ((view m.old).waits level position)) }
-    ensures { Becomes m.new (with_waits (view m.old) level position (pairs_of waits)) }
-{
-    let at = level * 16 + position;
-    m[FIRSTS + at] = waits.firsts;
-    m[SECONDS + at] = waits.seconds;
-    let row = WAIT_LENGTHS + level;
-    m[row] = words::one_less(m[row], position);
-}
+// ---- one reply more
 
-// ---- the oldest, and one more at the end
-
-pub fn oldest_request(m: &Machine, level: usize, position: usize) -> u8
-    requires level_nonzero { (0 < level) × (level < 5) × (position < 16) }
-    requires nonzero { (0 < length ((view m.now).requests level position)) × (length ((view m.now).requests level position) ≤ 8) }
-    ensures { result ≡ get_or ((view m.now).requests level position) 0 0 }
-{
-    load_requests(m, level, position).oldest()
-}
-
-pub fn oldest_reply(m: &Machine, level: usize, position: usize) -> u8
-    requires level_bound { (level < 5) × (position < 16) }
-    requires nonzero { (0 < length ((view m.now).replies level position)) × (length ((view m.now).replies level position) ≤ 8) }
-    ensures { result ≡ get_or ((view m.now).replies level position) 0 0 }
-{
-    load_replies(m, level, position).oldest()
-}
-
-// The oldest goes with the length alone.
-pub fn pop_request(m: &mut Machine, level: usize, position: usize)
-    requires m_len { length m.old ≡ size }
-    requires level_nonzero { (0 < level) × (level < 5) × (position < 16) }
-    requires nonzero { 0 < length ((view m.old).requests level position) }
-    ensures { Becomes m.new (with_requests (view m.old) level position (drop 1 ((view m.old).requests level position))) }
-{
-    let row = REQUEST_LENGTHS + level;
-    m[row] = words::one_less(m[row], position);
-}
-
-pub fn pop_reply(m: &mut Machine, level: usize, position: usize)
-    requires m_len { length m.old ≡ size }
-    requires level_bound { (level < 5) × (position < 16) }
-    requires nonzero { 0 < length ((view m.old).replies level position) }
-    ensures { Becomes m.new (with_replies (view m.old) level position (drop 1 ((view m.old).replies level position))) }
-{
-    let row = REPLY_LENGTHS + level;
-    m[row] = words::one_less(m[row], position);
-}
-
+#[tactic(auto, using(crate::proofs::Queued::queue_lengths))]
 pub fn push_reply(m: &mut Machine, level: usize, position: usize, t: u8)
-    requires m_len { length m.old ≡ size }
     requires level_bound { (level < 5) × (position < 16) }
     requires position_len_bound { length ((view m.old).replies level position) < 8 }
     ensures { Becomes m.new (with_reply (view m.old) level position t) }
@@ -189,6 +194,7 @@ pub fn push_reply(m: &mut Machine, level: usize, position: usize, t: u8)
 // ---- level 0
 
 // The next request of engine e, which has one.
+#[tactic(auto, using(crate::proofs::Queued::queue_reads))]
 pub fn next_of(m: &Machine, e: usize) -> u8
     requires e_bound { e < 16 }
     requires nonzero { 0 < length ((view m.now).requests 0 e) }
@@ -198,8 +204,8 @@ pub fn next_of(m: &Machine, e: usize) -> u8
 }
 
 // The next request of engine e: n where there is such a request, else none.
+#[tactic(auto, using(crate::proofs::Queued::queue_lengths))]
 pub fn set_next(m: &mut Machine, e: usize, n: usize)
-    requires m_len { length m.old ≡ size }
     requires e_bound { e < 16 }
     requires m_bound { (view m.old).fixed.count ≤ 256 }
     ensures { Becomes m.new (with_requests (view m.old) 0 e (choose (ltb n (view m.old).fixed.count) (n ∷ []) [])) }
@@ -217,7 +223,6 @@ pub fn set_next(m: &mut Machine, e: usize, n: usize)
 
 // The same where engine e has a request: n takes its place.
 pub fn replace_next(m: &mut Machine, e: usize, n: usize)
-    requires m_len { length m.old ≡ size }
     requires e_bound { e < 16 }
     requires m_bound { (view m.old).fixed.count ≤ 256 }
     requires nonzero { 0 < length ((view m.old).requests 0 e) }

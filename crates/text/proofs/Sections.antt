@@ -1,12 +1,14 @@
 -- Laws of a section of a report: lines that follow one another.
-use Prim.Native.Nat.{ℕ, ◌+◌}
-use mathlib.Core.Path.{◌≡◌, refl}
+use Prim.Native.Nat.{ℕ, ◌+◌, ◌*◌, ◌<◌}
+use mathlib.Core.Path.{◌≡◌, refl, subst}
 use mathlib.Core.List.{List, [], ◌++◌}
 use native.Mathlib.Numerals.{add-one}
+use native.Mathlib.Omega.{arith}
 use lib.ListN.{get_or}
-use Rattle.digits.specs.Inner.Buffer.{Wrote}
-use Rattle.digits.proofs.Buffer.{wrote_nothing, wrote_then}
-use Rattle.text.specs.Text.{reply_line, order_line, word_line, reply_lines, order_lines, word_lines}
+use Rattle.digits.specs.Inner.Buffer.{HasRoom, WritesWithin}
+use Rattle.digits.specs.declared.LentBuffer.{LentBuffer}
+use Rattle.digits.proofs.Buffer.{writes_nothing, within_then, room-within}
+use Rattle.text.specs.Text.{line_room, reply_line, order_line, word_line, reply_lines, order_lines, word_lines}
 
 -- the first n lines are none, or those before the last and the last
 pub record Section (lines line : ℕ → List ℕ) : Type 0 where
@@ -26,9 +28,14 @@ unfolding word_lines
 addresses words named = record { none = refl; more = λ n. rw add-one }
 
 module _ {lines line : ℕ → List ℕ} (s : Section lines line) where
-  pub section-starts : (before : List ℕ) (at : ℕ) → Wrote before at (lines 0) before at
-  section-starts before at = rw s.none (wrote_nothing before at)
+  pub section-starts : (out : LentBuffer) → WritesWithin (line_room * 0) out (lines 0) out
+  section-starts out = rw s.none (record { writes = writes_nothing out; short = omega arith })
 
-  pub section-goes : {before : List ℕ} {at : ℕ} (n : ℕ) {middle after : List ℕ} {next last : ℕ} →
-      Wrote before at (lines n) middle next → Wrote middle next (line n) after last → Wrote before at (lines (n + 1)) after last
-  section-goes n w v = rw s.more (wrote_then w v)
+  -- the first n of them are written
+  module _ {out middle : LentBuffer} (n : ℕ) (w : WritesWithin (line_room * n) out (lines n) middle) where
+    pub section-room : (count : ℕ) → n < count → HasRoom out (line_room * count) → HasRoom middle line_room
+    section-room count l room = room-within w line_room (omega arith)
+
+    pub section-goes : {after : LentBuffer} → WritesWithin line_room middle (line n) after → WritesWithin (line_room * (n + 1)) out (lines (n + 1)) after
+    section-goes {after} v = let size : line_room * n + line_room ≡ line_room * (n + 1) = omega arith in
+        rw s.more (subst (λ (room : ℕ). WritesWithin room out (lines n ++ line n) after) size (within_then w v))

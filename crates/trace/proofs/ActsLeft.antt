@@ -5,6 +5,7 @@ use mathlib.Core.Logic.{◌≢◌, ⊎_elim}
 use mathlib.Core.List.{List, [], ◌∷◌, ◌++◌, append_assoc, append-nil}
 use native.Mathlib.Omega.{arith}
 use native.Mathlib.Nat.{add-zero, add_assoc}
+use Rattle.std.specs.Prelude.{Some, None}
 use lib.ListN.{length, get_or, take, drop, length-append, length-drop}
 use lib.Seq.{drop-drop, drop_at, drop-length, drop-append-le, get_or-drop}
 use lib.Dec.{eqb}
@@ -24,8 +25,8 @@ use Rattle.trace.specs.Refusals.{fault}
 use Rattle.trace.specs.Check.{accepted, check}
 use Rattle.trace.specs.Inner.Fits.{Valid, valid-after}
 use Rattle.trace.specs.Inner.Acts.{act_size, ActFits, acts_size, act_offset, acts_written, Left, due_of, due}
-use Rattle.trace.specs.declared.acts.Due.{Due}
-use Rattle.trace.specs.declared.acts.Due.TheVariants.{End, Event as EventDue, Drain}
+use Rattle.trace.specs.declared.acts.Act.{Act as ReadAct}
+use Rattle.trace.specs.declared.acts.Act.TheVariants.{Event as EventRead, Drain}
 use Rattle.trace.proofs.Numbers.{number-one}
 use Rattle.trace.proofs.Fields.{fields-drop, fields-written}
 use Rattle.trace.proofs.Table.{act-section, act-or-earlier}
@@ -131,25 +132,22 @@ left_at s xs are e n = left-past n s (acts_offset xs) (acts_of xs) (left-start s
 abbrev row_by : ℕ → Row
 row_by kind = choose (eqb kind 4) event_row drain_row
 
-abbrev due_by : ℕ → List ℕ → Due
-due_by kind f = choose (eqb kind 4) (EventDue (get_or f 0 0) (get_or f 1 0) (get_or f 2 0)) (Drain (get_or f 0 0))
+abbrev due_by : ℕ → List ℕ → ReadAct
+due_by kind f = choose (eqb kind 4) (EventRead (get_or f 0 0) (get_or f 1 0) (get_or f 2 0)) (Drain (get_or f 0 0))
 
--- at the end none was read
-abbrev act_of : Due → Act
-act_of End = Act.drain 0
-act_of (EventDue what level position) = Act.event (record { what = what; level = level; position = position })
+abbrev act_of : ReadAct → Act
+act_of (EventRead what level position) = Act.event (record { what = what; level = level; position = position })
 act_of (Drain rounds) = Act.drain rounds
 
 record ActTold (a : Act) : Type 0 where
   row_is : row_by ((row_of (act a)).kind % 256) ≡ row_of (act a)
   due-is : due_by ((row_of (act a)).kind % 256) (parts_of (act a)).fields ≡ due_of a
   back : act_of (due_of a) ≡ a
-  some : due_of a ≢ End
 
 act-told : (a : Act) → ActTold a
 unfolding parts_of
-act-told (Act.event e) = record { row_is = refl; due-is = refl; back = refl; some = λ h. clash (cc) }
-act-told (Act.drain rounds) = record { row_is = refl; due-is = refl; back = refl; some = λ h. clash (cc) }
+act-told (Act.event e) = record { row_is = refl; due-is = refl; back = refl }
+act-told (Act.drain rounds) = record { row_is = refl; due-is = refl; back = refl }
 
 -- an act was read: it is the next, and past it the others are left
 pub record Next (s : List ℕ) (left : List Act) (a : Act) (at : ℕ) : Type 0 where
@@ -157,23 +155,25 @@ pub record Next (s : List ℕ) (left : List Act) (a : Act) (at : ℕ) : Type 0 w
   pub left_is : left ≡ a ∷ rest
   pub are-left : Left s at rest
 
-next-act : {s : List ℕ} {at : ℕ} (left : List Act) (d : Due) → d ≢ End → Left s at left → due left ≡ d → Next s left (act_of d) (at + act_size (act_of d))
-next-act [] d n l e = absurd (n (sym e))
-next-act (a ∷ rest) d n l e =
-    let is : act_of d ≡ a = ap act_of (sym e) ∙ (act-told a).back in rw is (record { rest = rest; left_is = refl; are-left = left-next l })
+next-act : {s : List ℕ} {at : ℕ} (left : List Act) (d : ReadAct) → Left s at left → due left ≡ Some d → Next s left (act_of d) (at + act_size (act_of d))
+next-act [] d l e = clash (cc)
+next-act (a ∷ rest) d l e =
+    let same : due_of a ≡ d = cc in
+    let is : act_of d ≡ a = ap act_of (sym same) ∙ (act-told a).back in rw is (record { rest = rest; left_is = refl; are-left = left-next l })
 
-pub next-event : {s : List ℕ} {at : ℕ} (left : List Act) (what level position : ℕ) → Left s at left → due left ≡ EventDue what level position →
+pub next-event : {s : List ℕ} {at : ℕ} (left : List Act) (what level position : ℕ) → Left s at left → due left ≡ Some (EventRead what level position) →
     Next s left (Act.event (record { what = what; level = level; position = position })) (at + 7)
 unfolding record_size parts_of total
-next-event left what level position l e = next-act left (EventDue what level position) (λ h. clash (cc)) l e
+next-event left what level position l e = next-act left (EventRead what level position) l e
 
-pub next-drain : {s : List ℕ} {at : ℕ} (left : List Act) (rounds : ℕ) → Left s at left → due left ≡ Drain rounds → Next s left (Act.drain rounds) (at + 6)
+pub next-drain : {s : List ℕ} {at : ℕ} (left : List Act) (rounds : ℕ) → Left s at left → due left ≡ Some (Drain rounds) →
+    Next s left (Act.drain rounds) (at + 6)
 unfolding record_size parts_of total
-next-drain left rounds l e = next-act left (Drain rounds) (λ h. clash (cc)) l e
+next-drain left rounds l e = next-act left (Drain rounds) l e
 
-pub next-end : {s : List ℕ} {at : ℕ} (left : List Act) → Left s at left → due left ≡ End → left ≡ []
+pub next-end : {s : List ℕ} {at : ℕ} (left : List Act) → Left s at left → due left ≡ None → left ≡ []
 next-end [] l e = refl
-next-end (a ∷ rest) l h = absurd ((act-told a).some h)
+next-end (a ∷ rest) l h = clash (cc)
 
 -- what the bytes at an offset say of the next act
 module _ (s : List ℕ) (at : ℕ) where
@@ -193,16 +193,16 @@ module _ (s : List ℕ) (at : ℕ) where
   -- its record stands whole, and it is read by its kind
   record Here (left : List Act) : Type 0 where
     inside : at + (4 + body_size (row_by (get_or s (at + 2) 0))) ≤ length s
-    due-is : due_by (get_or s (at + 2) 0) (fields_in (row_by (get_or s (at + 2) 0)).widths s (at + 4)) ≡ due left
+    due-is : Some (due_by (get_or s (at + 2) 0) (fields_in (row_by (get_or s (at + 2) 0)).widths s (at + 4))) ≡ due left
 
   here : (left : List Act) → Left s at left → at ≢ length s → Here left
   unfolding acts_written record_size
   here [] l h = absurd (h (omega (arith, length-drop at s, ap length l.bytes-are, l.inside)))
   here (a ∷ rest) l h =
       let t = act-told a in
-      record { inside = rw (kind-here l, t.row_is) (left-next l).inside; due-is = rw (kind-here l, t.row_is, fields-here l) t.due-is }
+      record { inside = rw (kind-here l, t.row_is) (left-next l).inside; due-is = rw (kind-here l, t.row_is, fields-here l) (ap Some t.due-is) }
 
-  pub read-end : (left : List Act) → Left s at left → at ≡ length s → End ≡ due left
+  pub read-end : (left : List Act) → Left s at left → at ≡ length s → None ≡ due left
   unfolding record_size
   read-end [] l h = refl
   read-end (a ∷ rest) l h = let z : ⊥ = omega (arith, (left-next l).inside) in elim z [ ]
@@ -219,13 +219,13 @@ module _ (s : List ℕ) (at : ℕ) where
     unfolding total
     drain-room k = rw (ne_eqb (get_or s (at + 2) 0) 4 k) at (here left l some).inside
 
-    pub read-event : get_or s (at + 2) 0 ≡ 4 → EventDue (get_or s (at + 4) 0) (get_or s (at + 5) 0) (get_or s (at + 6) 0) ≡ due left
+    pub read-event : get_or s (at + 2) 0 ≡ 4 → Some (EventRead (get_or s (at + 4) 0) (get_or s (at + 5) 0) (get_or s (at + 6) 0)) ≡ due left
     unfolding fields_in
     read-event k =
         let five : at + 4 + 1 ≡ at + 5 = omega arith in
         let six : at + 4 + 1 + 1 ≡ at + 6 = omega arith in
         rw (← (number-one s (at + 4)), ← (number-one s (at + 5)), ← (number-one s (at + 6)), ← five, ← six) (rw k at (here left l some).due-is)
 
-    pub read-drain : get_or s (at + 2) 0 ≢ 4 → Drain (number 2 s (at + 4)) ≡ due left
+    pub read-drain : get_or s (at + 2) 0 ≢ 4 → Some (Drain (number 2 s (at + 4))) ≡ due left
     unfolding fields_in
     read-drain k = rw (ne_eqb (get_or s (at + 2) 0) 4 k) at (here left l some).due-is

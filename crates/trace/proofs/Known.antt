@@ -18,6 +18,7 @@ use Rattle.trace.specs.Item.{Shape, Word, Request, shape, word, request, act, It
 use Rattle.trace.specs.Table.{parts_of, record_size, size}
 use Rattle.trace.specs.Contents.{contents, add, words_given, requests_of, given, last_section, acts_offset}
 use Rattle.trace.specs.Inner.Known.{Known, Room, Noted, moved_past, shaped, asked, Same}
+use Rattle.trace.specs.Inner.Told.{facts_of}
 use Rattle.trace.specs.declared.progress.Progress.{Progress}
 use Rattle.trace.proofs.Table.{word-section, request-section, act-section}
 use Rattle.trace.proofs.Ranges.{shape-in-range}
@@ -29,17 +30,27 @@ act-same before a = record { shape_is = refl; words_are = refl; requests-are = r
 
 -- so what was known is known, wherever the acts end
 pub known_same : {xs ys : Items} {p p' : Progress} {marks : List ℕ} → Same xs ys → Known xs p marks → p'.at ≡ size ys → p'.section ≡ last_section ys →
-    p'.k ≡ p.k → p'.q ≡ p.q → p'.w ≡ p.w → p'.requests ≡ p.requests → p'.acts_at ≡ p.acts_at → Known ys p' marks
-known_same same known at-is section-is k q w requests front = record {
+    p'.facts ≡ p.facts → Known ys p' marks
+known_same same known at-is section-is facts = record {
   at-is = at-is;
   section-is = section-is;
-  k-is = k ∙ known.k-is ∙ ap (λ (s : Shape). s.k) same.shape_is;
-  k-low = rw k known.k-low;
-  q-is = q ∙ known.q-is ∙ ap (λ (s : Shape). s.q) same.shape_is;
-  w-is = w ∙ known.w-is ∙ ap (λ (s : Shape). s.w) same.shape_is;
-  requests-is = requests ∙ known.requests-is ∙ ap length same.requests-are;
-  acts-at-is = front ∙ known.acts-at-is ∙ same.acts-at-is;
+  k-is = rw facts known.k-is ∙ ap (λ (s : Shape). s.k) same.shape_is;
+  k-low = rw facts known.k-low;
+  q-is = rw facts known.q-is ∙ ap (λ (s : Shape). s.q) same.shape_is;
+  w-is = rw facts known.w-is ∙ ap (λ (s : Shape). s.w) same.shape_is;
+  requests-is = rw facts known.requests-is ∙ ap length same.requests-are;
+  acts-at-is = rw facts known.acts-at-is ∙ same.acts-at-is;
   marks-are = λ a low. known.marks-are a low ∙ ap (λ (ws : List Word). choose (given ws a) 1 0) same.words_are;
+}
+
+-- what is known at the end is what the trace says of itself
+pub facts-known : {before : Items} {p : Progress} {marks : List ℕ} → Known before p marks → p.facts ≡ facts_of before
+facts-known known = λ i. record {
+  k = known.k-is i;
+  q = known.q-is i;
+  w = known.w-is i;
+  requests = known.requests-is i;
+  acts_at = known.acts-at-is i;
 }
 
 -- the marks after one more word
@@ -91,7 +102,7 @@ module _ {p : Progress} {marks : List ℕ} (room : Room p marks) where
     };
   }
 
-  pub notes-request : (r : Request) → p.requests < 256 → Noted (request r) p marks (asked (moved_past p (request r))) marks
+  pub notes-request : (r : Request) → p.facts.requests < 256 → Noted (request r) p marks (asked (moved_past p (request r))) marks
   unfolding record_size size last_section contents add acts_offset
   notes-request r few = record {
     at-is = omega arith;
@@ -115,5 +126,5 @@ module _ {p : Progress} {marks : List ℕ} (room : Room p marks) where
     at-is = omega arith;
     room = record { acts-at-low = rw (act-section a) (omega (arith, room.acts-at-low)); requests-low = room.requests-low; marks-size = room.marks-size };
     known = λ before known f.
-        known_same (act-same before a) known (omega (arith, known.at-is)) refl refl refl refl refl (rw (act-section a));
+        known_same (act-same before a) known (omega (arith, known.at-is)) refl (rw (act-section a));
   }

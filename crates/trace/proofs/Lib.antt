@@ -3,6 +3,7 @@ pub mod Tests
 pub mod Numbers
 pub mod Fields
 pub mod Table
+pub mod KindRows
 pub mod Records
 pub mod Contents
 pub mod Written

@@ -1,14 +1,16 @@
 -- Numbers written in bytes, and read back.
 use Prim.Native.Nat.{ℕ, zero, suc, ◌+◌, ◌*◌, ◌/◌, ◌%◌, ◌≤◌, ◌<◌, ◌^◌}
-use mathlib.Core.Path.{◌≡◌, refl, ap, ◌∙◌}
+use mathlib.Core.Path.{◌≡◌, refl, ap, sym, ◌∙◌}
 use mathlib.Core.List.{List, [], ◌∷◌, ◌++◌, append_assoc}
 use native.Mathlib.Omega.{arith}
-use native.Mathlib.Nat.{pow-succ', zero-add, add-zero, add-suc, suc-add, mul_assoc}
+use native.Mathlib.Nat.{pow-succ', zero-add, add-zero, add-suc, suc-add, mul_assoc, mul_comm}
 use native.Mathlib.Numerals.{add-one}
 use native.Mathlib.Decide.{dec_lt}
 use lib.ListN.{length, get_or, take, drop, length-append, length-take, get_or-eq_default}
 use lib.Seq.{get_or-append_seam, get_or-drop, get_or-take, drop-cons}
 use Rattle.lists.proofs.Tests.{by_cases}
+use Rattle.std.specs.Int.{sum_through, byte_worth}
+use Rattle.std.specs.List.{slice_index}
 use Rattle.words.specs.Inner.Digits.{byte_in}
 use Rattle.words.proofs.Digits.{digit-zero, digit-suc}
 use Rattle.trace.specs.Bytes.{AreBytes, number}
@@ -38,10 +40,29 @@ number-join (suc n) m s i =
     let on : suc i + n ≡ i + suc n = omega arith in
     rw (suc-add n m, number-join n m s (suc i), pow-succ' 256 n, on, mul_assoc 256 (256 ^ n) (number m s (i + suc n))) (omega arith)
 
+-- of the first m bytes, where they have it
+number-take : (n m : ℕ) (s : List ℕ) (i : ℕ) → i + n ≤ m → number n (take m s) i ≡ number n s i
+unfolding number
+number-take zero m s i h = refl
+number-take (suc n) m s i h = rw (get_or-take m s i 0 (omega arith), number-take n m s (suc i) (omega arith))
+
 -- a number of one byte is the byte
 pub number-one : (s : List ℕ) (i : ℕ) → number 1 s i ≡ get_or s i 0
 unfolding number
 number-one s i = add-zero (get_or s i 0)
+
+-- the bytes as std sums them
+number-sum : (s : List ℕ) (n : ℕ) → sum_through (λ j. byte_worth j (slice_index s j)) n ≡ number (suc n) s 0
+number-sum s zero = sym (number-one s 0)
+number-sum s (suc n) =
+    let join : number (suc (suc n)) s 0 ≡ number (suc n) s 0 + 256 ^ suc n * get_or s (suc n) 0 =
+    rw (← add-one) (number-join (suc n) 1 s 0 ∙ rw (zero-add (suc n), number-one s (suc n)) refl) in
+    omega (arith, number-sum s n, join, mul_comm (get_or s (suc n) 0) (256 ^ suc n))
+
+pub number-read : (n : ℕ) (s : List ℕ) (i : ℕ) {b : List ℕ} → b ≡ take (suc n) (drop i s) →
+    sum_through (λ j. byte_worth j (slice_index b j)) n ≡ number (suc n) s i
+number-read n s i is =
+    rw is (number-sum (take (suc n) (drop i s)) n ∙ number-take (suc n) (suc n) (drop i s) 0 (omega arith) ∙ number-drop (suc n) s i 0 ∙ rw (add-zero i) refl)
 
 pub number-below : {s : List ℕ} → AreBytes s → (n i : ℕ) → number n s i < 256 ^ n
 unfolding number

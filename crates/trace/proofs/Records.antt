@@ -1,25 +1,29 @@
 -- The record that stands first: what it is by its bytes, and that the others are the records of the rest.
-use Prim.Native.Nat.{ℕ, zero, suc, ◌+◌, ◌-◌, ◌≤◌}
+use Prim.Native.Nat.{ℕ, zero, suc, ◌+◌, ◌-◌, ◌≤◌, ◌<◌}
 use mathlib.Core.Path.{◌≡◌, refl, ap, sym, ◌∙◌}
+use mathlib.Core.Logic.{◌≢◌}
 use mathlib.Core.List.{List, [], ◌∷◌}
 use mathlib.Core.Bool.{Bool, true, false, not}
 use native.Mathlib.Omega.{arith}
 use native.Mathlib.Nat.{add-zero}
+use Rattle.std.specs.Prelude.{Ok, Some}
 use lib.ListN.{length, take, drop, length-drop}
 use lib.Seq.{drop-drop, length-take-le}
 use lib.Dec.{eqb, ltb}
-use borrow.Author.Tests.{le-ltb, ne_eqb, ltb-false}
+use borrow.Author.Tests.{lt-ltb, le-ltb, eq-eqb, ne_eqb, ltb-false}
 use Rattle.lists.specs.Choice.{choose}
 use Rattle.lists.proofs.Tests.{clash}
 use Rattle.trace.specs.Bytes.{number}
-use Rattle.trace.specs.Table.{is_row, kind_row, body_row, item}
+use Rattle.trace.specs.Table.{body_size, no_row, is_row, kind_row, body_row, item}
 use Rattle.trace.specs.Records.{Split, nothing, faulty, whole, split, Records, done, broken, next, divided, records_up_to, records}
-use Rattle.trace.specs.Inner.Told.{RecordFits}
-use Rattle.trace.specs.Inner.Known.{listing, Bodied}
-use Rattle.trace.specs.declared.record.Listed.{Listed}
-use Rattle.trace.specs.declared.record.Listed.TheVariants.{NoKind, NoLength, In}
+use Rattle.trace.specs.Inner.Kinds.{number_of_kind}
+use Rattle.trace.specs.Inner.Known.{Bodied}
+use Rattle.trace.specs.Inner.Told.{HeadRead}
+use Rattle.trace.specs.declared.kind.RecordKind.{RecordKind}
+use Rattle.trace.specs.declared.record.Record.{Record}
 use Rattle.trace.proofs.Numbers.{number-drop}
 use Rattle.trace.proofs.Table.{row_told, row-sizes}
+use Rattle.trace.proofs.KindRows.{kind-known, one-row}
 
 -- what stands at an offset, by the bytes there
 pub split_at : (s : List ℕ) (at : ℕ) →
@@ -39,35 +43,44 @@ pub record Header (s : List ℕ) (at len kind : ℕ) : Type 0 where
   pub len_is : len ≡ number 2 s at
   pub kind-is : kind ≡ number 2 s (at + 2)
 
--- what stands there, by what the table says of it
-abbrev pub split_as : List ℕ → ℕ → ℕ → ℕ → Listed → Split
-split_as s at len kind NoKind = faulty 2
-split_as s at len kind NoLength = faulty 3
-split_as s at len kind (In section) = choose (ltb (length s - at - 4) len) (faulty 1) (whole kind (take len (drop (at + 4) s)))
+pub body-size : (s : List ℕ) (at size : ℕ) {b : List ℕ} → b ≡ take size (drop (at + 4) s) → at + 4 + size ≤ length s → length b ≡ size
+body-size s at size is inside = ap length is ∙ length-take-le size (drop (at + 4) s) (simp length-drop (omega arith))
 
-pub header-split : {s : List ℕ} {at len kind : ℕ} → Header s at len kind → {l : Listed} → l ≡ listing kind len → split (drop at s) ≡ split_as s at len kind l
-unfolding listing
-header-split {s} {at} {len} {kind} h told =
-    simp (split_at, ne_eqb (length s - at) 0 (λ e. omega (arith, h.some)), le-ltb _ _ h.some, ← h.len_is, ← h.kind-is, told)
-    (go (is_row (kind_row kind)) (is_row (body_row kind len)))
-  where
-    go : (t u : Bool) →
-        choose (not t) (faulty 2) (choose (not u) (faulty 3) (choose (ltb (length s - at - 4) len) (faulty 1) (whole kind (take len (drop (at + 4) s)))))
-        ≡ split_as s at len kind (choose t (choose u (In (body_row kind len).section) NoLength) NoKind)
-    go true true = refl
-    go true false = refl
-    go false u = refl
+-- a record that stands whole, with its body
+pub record Body (s : List ℕ) (at kind : ℕ) (b : List ℕ) : Type 0 where
+  pub stands : split (drop at s) ≡ whole kind b
+  pub inside : at + 4 + length b ≤ length s
+  pub bodied : Bodied kind b
 
--- a row that is told has its section
-pub told_in : (kind len : ℕ) {section : ℕ} → In section ≡ listing kind len → (is_row (body_row kind len) ≡ true) × (section ≡ (body_row kind len).section)
-unfolding listing
-told_in kind len {section} told = go (is_row (kind_row kind)) (is_row (body_row kind len)) refl told
-  where
-    go : (t u : Bool) → is_row (body_row kind len) ≡ u → In section ≡ choose t (choose u (In (body_row kind len).section) NoLength) NoKind →
-        (is_row (body_row kind len) ≡ true) × (section ≡ (body_row kind len).section)
-    go true true e h = (e, cc)
-    go true false e h = clash (cc)
-    go false u e h = clash (cc)
+pub body_at : {s : List ℕ} {at kind : ℕ} (size : ℕ) {b : List ℕ} → split (drop at s) ≡ whole kind (take size (drop (at + 4) s)) →
+    at + 4 + size ≤ length s → is_row (body_row kind size) ≡ true → b ≡ take size (drop (at + 4) s) → Body s at kind b
+body_at {s} {at} {kind} size {b} says inside right is =
+    let long = body-size s at size is inside in
+    record { stands = rw is says; inside = rw long inside; bodied = record { right = rw long right } }
+
+-- what stands there: a record of an unknown kind; of a known one by its length, and by how much there is of its body
+module _ {s : List ℕ} {at len : ℕ} where
+  pub unknown-kind : {kind : ℕ} → Header s at len kind → is_row (kind_row kind) ≡ false → split (drop at s) ≡ faulty 2
+  unknown-kind h none = simp (split_at, ne_eqb (length s - at) 0 (λ e. omega (arith, h.some)), le-ltb _ _ h.some, ← h.kind-is, none)
+
+  module _ (kind : RecordKind) (h : Header s at len (number_of_kind kind)) where
+    known-kind : let r = kind_row (number_of_kind kind) in
+        split (drop at s) ≡
+        choose (not (is_row (choose (eqb len (body_size r)) r no_row))) (faulty 3)
+        (choose (ltb (length s - at - 4) len) (faulty 1) (whole (number_of_kind kind) (take len (drop (at + 4) s))))
+    known-kind =
+        simp (split_at, ne_eqb (length s - at) 0 (λ e. omega (arith, h.some)), le-ltb _ _ h.some, ← h.len_is, ← h.kind-is, kind-known kind, one-row kind len)
+
+    pub length-wrong : len ≢ body_size (kind_row (number_of_kind kind)) → split (drop at s) ≡ faulty 3
+    length-wrong n = known-kind ∙ simp (ne_eqb _ _ n)
+
+    module _ (long : len ≡ body_size (kind_row (number_of_kind kind))) where
+      pub body-cut : length s - at - 4 < len → split (drop at s) ≡ faulty 1
+      body-cut cut = known-kind ∙ simp (eq-eqb _ _ long, kind-known kind, lt-ltb _ _ cut)
+
+      pub body-whole : len ≤ length s - at - 4 → Body s at (number_of_kind kind) (take len (drop (at + 4) s))
+      body-whole inside = body_at len (known-kind ∙ simp (eq-eqb _ _ long, kind-known kind, le-ltb _ _ inside)) (omega (arith, h.some))
+          (simp (one-row kind len, eq-eqb _ _ long) (kind-known kind)) refl
 
 -- `divided` looks at the rest only behind a header
 divided-same : (t : Split) (f g : List ℕ → Records) (s : List ℕ) → ((n : ℕ) → f (drop (4 + n) s) ≡ g (drop (4 + n) s)) → divided t f s ≡ divided t g s
@@ -208,21 +221,6 @@ is_whole {s} {kind} {b} w =
       ← w.body_is,
     )
 
-pub body-size : (s : List ℕ) (at size : ℕ) {b : List ℕ} → b ≡ take size (drop (at + 4) s) → at + 4 + size ≤ length s → length b ≡ size
-body-size s at size is inside = ap length is ∙ length-take-le size (drop (at + 4) s) (simp length-drop (omega arith))
-
--- the body that a head announces
-pub record Body (s : List ℕ) (at kind section size : ℕ) (b : List ℕ) : Type 0 where
-  pub stands : split (drop at s) ≡ whole kind b
-  pub inside : at + 4 + length b ≤ length s
-  pub bodied : Bodied kind section b
-
-pub body_at : {s : List ℕ} {at kind section size : ℕ} {b : List ℕ} → whole kind (take size (drop (at + 4) s)) ≡ split (drop at s) →
-    RecordFits (length s) at kind section size → b ≡ take size (drop (at + 4) s) → Body s at kind section size b
-body_at {s} {at} {kind} {section} {size} {b} says fits is =
-    let long = body-size s at size is fits.inside in
-    record {
-      stands = rw is (sym says);
-      inside = rw long fits.inside;
-      bodied = record { right = rw long fits.right; section-is = rw long fits.section-is };
-    }
+-- a head that announces a record
+pub head-body : {s : List ℕ} {at : ℕ} {r : Record} → HeadRead s at (Ok (Some r)) → Body s at (number_of_kind r.kind) r.body.now
+head-body h = record { stands = sym h.says; inside = h.fits.inside; bodied = h.fits.bodied }

@@ -2,14 +2,11 @@
 use Prim.Native.Nat.{ℕ, ◌+◌, ◌*◌, ◌%◌, ◌≤◌, ◌<◌}
 use mathlib.Core.Path.{◌≡◌, refl, ap, sym, ◌∙◌}
 use mathlib.Core.List.{List}
-use mathlib.Core.Bool.{Bool, true, false}
+use mathlib.Core.Bool.{Bool, true}
 use native.Mathlib.Omega.{arith}
 use native.Mathlib.Nat.{add-zero}
 use lib.ListN.{length, get_or, take, drop, length-drop}
-use lib.Dec.{eqb}
-use borrow.Author.Tests.{eqb-true}
 use lib.Seq.{drop-drop, get_or-take, get_or-drop}
-use Rattle.lists.proofs.Tests.{clash}
 use Rattle.event.specs.Event.{Event, Act, event, drain, names_step}
 use Rattle.trace.specs.Bytes.{AreBytes, number, total}
 use Rattle.trace.specs.Item.{Shape, act, Items, after}
@@ -136,16 +133,6 @@ module _ {s : List ℕ} {k at end : ℕ} (are : AreBytes s) (p : Passed s k at e
   passed-header inside e header = passed-drain (omega arith) (sym (header_of are end) ∙ ap (λ (n : ℕ). n % 4294967296) (sym e) ∙ header)
 
 -- ---- drains, eight at a stride
-pub not-four : {s : List ℕ} {i : ℕ} → FourDrains s i false
-not-four = record { headers = λ e. clash (cc) }
-
-pub four-told : {s : List ℕ} {i : ℕ} → number 4 s i ≡ 327682 → number 4 s (i + 6) ≡ 327682 → number 4 s (i + 12) ≡ 327682 → (n : ℕ) → n ≡ number 4 s (i + 18) →
-    FourDrains s i (eqb n 327682)
-four-told a b c n d = record { headers = λ e. (a, b, c, sym d ∙ eqb-true n 327682 e) }
-
-pub drains-start : (s : List ℕ) (at : ℕ) → at ≤ length s → DrainsPassed s at at
-drains-start s at h = record { passed = λ k. passed_start s k at h }
-
 passed-four : {s : List ℕ} {at i : ℕ} → AreBytes s → DrainsPassed s at i → i + 24 ≤ length s → {b : Bool} → FourDrains s i b → b ≡ true →
     DrainsPassed s at (i + 24)
 passed-four {s} {at} {i} are p inside f e =

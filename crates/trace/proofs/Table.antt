@@ -17,9 +17,7 @@ use Rattle.trace.specs.Item.{Word, Request, Item, shape, word, request, act}
 use Rattle.trace.specs.Table.{Row, shape_row, word_row, request_row, event_row, drain_row, rows, body_size, no_row, is_row, first_row, kind_row, body_row}
 use Rattle.trace.specs.Table.{item, Parts, parts_of, row_of, section, record_size}
 use Rattle.trace.specs.Contents.{Contents, add}
-use Rattle.trace.specs.Inner.Known.{shape_in, word_in, request_in, event_in, Bodied, moved, moved_past}
-use Rattle.trace.specs.declared.progress.Progress.{Progress}
-use Rattle.trace.specs.declared.record.Listed.TheVariants.{NoLength, In}
+use Rattle.trace.specs.Inner.Known.{shape_in, word_in, request_in, event_in, Bodied}
 use Rattle.trace.proofs.Numbers.{number-one}
 use Rattle.trace.proofs.Fields.{length_fields}
 
@@ -173,15 +171,11 @@ row-item kind b is = ap (λ (p : Parts). p.row) (parts-item kind b is)
 pub kind-item : (kind : ℕ) (b : List ℕ) → is_row (body_row kind (length b)) ≡ true → (row_of (item kind b)).kind ≡ kind
 kind-item kind b is = ap (λ (r : Row). r.kind) (row-item kind b is) ∙ sym (row_told kind (length b) is).kind-is
 
-pub section-item : {kind n : ℕ} {b : List ℕ} → Bodied kind n b → section (item kind b) ≡ n
-section-item {kind} {n} {b} bodied = ap (λ (r : Row). r.section) (row-item kind b bodied.right) ∙ sym bodied.section-is
+pub section-item : {kind : ℕ} {b : List ℕ} → Bodied kind b → section (item kind b) ≡ (body_row kind (length b)).section
+section-item {kind} {b} bodied = ap (λ (r : Row). r.section) (row-item kind b bodied.right)
 
 pub body-item-size : (kind : ℕ) (b : List ℕ) → is_row (body_row kind (length b)) ≡ true → length b ≡ body_size (row_of (item kind b))
 body-item-size kind b is = (row_told kind (length b) is).size_is ∙ sym (ap (λ (r : Row). body_size r) (row-item kind b is))
-
-pub moved_item : (p : Progress) {kind n : ℕ} {b : List ℕ} {x : Item} → Bodied kind n b → item kind b ≡ x → moved p n (length b) ≡ moved_past p x
-moved_item p {kind} {n} {b} bodied e =
-    rw (← (section-item bodied), body-item-size kind b bodied.right) (ap (λ (y : Item). moved p (section y) (body_size (row_of y))) e)
 
 pub size-item : (kind : ℕ) (b : List ℕ) → is_row (body_row kind (length b)) ≡ true → record_size (item kind b) ≡ 4 + length b
 unfolding record_size
@@ -206,12 +200,6 @@ row-sizes r right =
 one-length : {n size : ℕ} (r : Row) (test : Bool) → eqb n size ≡ test → is_row (choose test r no_row) ≡ true → n ≡ size
 one-length r true e is = eqb-true _ _ e
 one-length r false e is = no-row is
-
--- and what the table says of it
-pub one-listed : (test : Bool) (r : Row) → is_row r ≡ true →
-    choose test (In r.section) NoLength ≡ choose (is_row (choose test r no_row)) (In (choose test r no_row).section) NoLength
-one-listed true r is = rw is
-one-listed false r is = refl
 
 -- a body of a kind with a row of one length has that length, and says that item
 pub record Says (b : List ℕ) (kind size : ℕ) (x : Item) : Type 0 where

@@ -2,30 +2,36 @@
 ghost use Rattle.trace.specs.Inner.Acts.{ActsLeft, ActRead};
 
 use crate::bytes::number2;
+use crate::kind::RecordKind;
+use crate::record::HEADER_SIZE;
 
 // How many bytes a record of each has.
-pub const EVENT_SIZE: usize = 7;
+pub const EVENT_SIZE: usize = HEADER_SIZE + 3;
 
-pub const DRAIN_SIZE: usize = 6;
+pub const DRAIN_SIZE: usize = HEADER_SIZE + 2;
 
-// What stands where the next act is due: the end; an event's what, level and position; or a drain's most rounds.
-#[derive(Clone, Copy)]
-pub enum Due {
-    End,
-    Event(u8, u8, u8),
+// An event, or a drain's most rounds. `what` is a byte still: `act_at` is not told that it names a step, who runs the event is.
+#[derive(Clone, Copy, Debug, PartialEq, Eq)]
+pub enum Act {
+    Event { what: u8, level: u8, position: u8 },
     Drain(u64),
 }
 
-// The act at an offset of an accepted trace, where only acts are left: its header was checked, so its kind is told by one byte.
-pub fn act_at(s: &[u8], at: usize) -> Due
+// The act at an offset of an accepted trace, where only acts are left, `None` at the end: its header was checked, so its kind is told
+// by one byte.
+pub fn act_at(s: &[u8], at: usize) -> Option<Act>
     requires { ActsLeft s.now at }
     ensures { ActRead s.now at result }
 {
     if at == s.len() {
-        return Due::End;
+        return None;
     }
-    if s[at + 2] == 4 {
-        return Due::Event(s[at + 4], s[at + 5], s[at + 6]);
+    if s[at + 2] == RecordKind::Event as u8 {
+        return Some(Act::Event {
+            what: s[at + 4],
+            level: s[at + 5],
+            position: s[at + 6],
+        });
     }
-    Due::Drain(number2(s, at + 4))
+    Some(Act::Drain(number2(s, at + 4)))
 }

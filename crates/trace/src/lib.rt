@@ -6,6 +6,7 @@ ghost use Rattle.trace.specs.Answers.{number_of};
 
 pub mod acts;
 pub mod bytes;
+pub mod kind;
 mod masked;
 pub mod passed;
 pub mod progress;
@@ -16,10 +17,10 @@ pub mod rules;
 // How many bytes the longest trace has.
 pub const LONGEST: usize = 65536;
 
-// What a trace is refused for, in the order of the paper's numbers, from 1.
-#[derive(Clone, Copy)]
+// What a trace is refused for, each with the paper's number.
+#[derive(Clone, Copy, Debug, PartialEq, Eq)]
 pub enum Fault {
-    Cut,
+    Cut = 1,
     Kind,
     Length,
     Order,
@@ -32,7 +33,7 @@ pub enum Fault {
 }
 
 // What an accepted trace says of itself: its shape, how many requests it has, and the offset of its first act.
-#[derive(Clone, Copy)]
+#[derive(Clone, Copy, Debug, PartialEq, Eq)]
 pub struct Facts {
     pub k: u8,
     pub q: u8,
@@ -41,26 +42,24 @@ pub struct Facts {
     pub acts_at: usize,
 }
 
-#[derive(Clone, Copy)]
-pub enum Answer {
-    Refused(Fault, usize),
-    Accepted(Facts),
+// What a trace is refused for, and the offset of the faulty record.
+#[derive(Clone, Copy, Debug, PartialEq, Eq)]
+pub struct Refusal {
+    pub fault: Fault,
+    pub offset: usize,
 }
 
 // The paper's number of a fault.
 pub fn number_of(f: Fault) -> u8
     ensures { result ≡ number_of f }
 {
-    match f {
-        Fault::Cut => 1,
-        Fault::Kind => 2,
-        Fault::Length => 3,
-        Fault::Order => 4,
-        Fault::Range => 5,
-        Fault::Twice => 6,
-        Fault::Operand => 7,
-        Fault::Step => 8,
-        Fault::Many => 9,
-        Fault::Long => 10,
+    f as u8
+}
+
+impl From<Fault> for u64 {
+    ghost from_gives = { λ f n. n ≡ number_of f };
+
+    fn from(f: Fault) -> u64 {
+        f as u64
     }
 }

@@ -2,8 +2,10 @@
 ghost use Rattle.std.specs.Prelude.{◌≤◌};
 ghost use Rattle.trace.specs.Inner.Masked.{Mask, Steps, TellsEvent};
 
+use crate::kind::RecordKind;
+
 // An event's header, length and kind, as the one number that its four bytes spell.
-const EVENT_HEADER: u64 = 3 + 65536 * 4;
+const EVENT_HEADER: u64 = 3 + 65536 * RecordKind::Event as u64;
 
 // Whether eight bytes begin with an event that names a step.
 pub fn is_event(w: u64, fixed: u64, named: u64) -> bool

@@ -4,10 +4,11 @@ ghost use Rattle.trace.specs.Inner.Known.{Passed, DrainsPassed, FourDrains};
 
 use crate::acts::{DRAIN_SIZE, EVENT_SIZE};
 use crate::bytes::{number4, number8};
+use crate::kind::RecordKind;
 use crate::masked::{fixed_bits, is_event, steps_of};
 
 // A drain's header, length and kind, as the one number that its four bytes spell.
-const DRAIN_HEADER: u64 = 2 + 65536 * 5;
+const DRAIN_HEADER: u64 = 2 + 65536 * RecordKind::Drain as u64;
 
 const FOUR_DRAINS: usize = 4 * DRAIN_SIZE;
 
@@ -21,21 +22,19 @@ pub fn acts_end(s: &[u8], at: usize, k: u8) -> usize
 {
     let fixed = fixed_bits(k);
     let named = steps_of(k);
+    // no range: an event and a run of drains are passed by strides of their own
     let mut i = at;
-    loop {
-        if s.len() - i < 8 {
-            return i;
-        }
+    while s.len() - i >= 8 {
         let w = number8(s, i);
         if is_event(w, fixed, named) {
             i += EVENT_SIZE;
-        } else {
-            if w % 4294967296 != DRAIN_HEADER {
-                return i;
-            }
+        } else if w % 4294967296 == DRAIN_HEADER {
             i = past_drains(s, i + DRAIN_SIZE);
+        } else {
+            return i;
         }
     }
+    i
 }
 
 // Past drains, eight at a stride: a trace may end in thousands of them. Those that are left are passed one by one.
@@ -44,13 +43,7 @@ fn past_drains(s: &[u8], at: usize) -> usize
     ensures { DrainsPassed s.now at result }
 {
     let mut i = at;
-    while s.len() - i >= EIGHT_DRAINS {
-        if !four_drains(s, i) {
-            return i;
-        }
-        if !four_drains(s, i + FOUR_DRAINS) {
-            return i;
-        }
+    while s.len() - i >= EIGHT_DRAINS && four_drains(s, i) && four_drains(s, i + FOUR_DRAINS) {
         i += EIGHT_DRAINS;
     }
     i
@@ -60,14 +53,8 @@ fn four_drains(s: &[u8], i: usize) -> bool
     requires { i + 24 ≤ length s.now }
     ensures { FourDrains s.now i result }
 {
-    if number4(s, i) != DRAIN_HEADER {
-        return false;
-    }
-    if number4(s, i + 6) != DRAIN_HEADER {
-        return false;
-    }
-    if number4(s, i + 12) != DRAIN_HEADER {
-        return false;
-    }
-    number4(s, i + 18) == DRAIN_HEADER
+    number4(s, i) == DRAIN_HEADER
+        && number4(s, i + DRAIN_SIZE) == DRAIN_HEADER
+        && number4(s, i + 2 * DRAIN_SIZE) == DRAIN_HEADER
+        && number4(s, i + 3 * DRAIN_SIZE) == DRAIN_HEADER
 }

@@ -2,16 +2,21 @@
 ghost use Rattle.std.specs.Prelude.{◌≡◌, ◌≤◌, length, set};
 ghost use Rattle.trace.specs.Table.{item};
 ghost use Rattle.trace.specs.Inner.Known.{shape_in, begun, moved, shaped, asked, MayNote, Noted};
+ghost use Rattle.trace.specs.Inner.Kinds.{number_of_kind};
 
+use crate::Facts;
+use crate::kind::RecordKind;
+use crate::record::{HEADER_SIZE, Record};
+
+// The section of the events and drains, behind the others.
+const ACTS_SECTION: u8 = 4;
+
+// The section of the last record is a number, 0 before the first: their order is that of the numbers (`may_follow`).
 #[derive(Clone, Copy)]
 pub struct Progress {
     pub at: usize,
     pub section: u8,
-    pub k: u8,
-    pub q: u8,
-    pub w: u8,
-    pub requests: usize,
-    pub acts_at: usize,
+    pub facts: Facts,
 }
 
 impl Progress {
@@ -22,25 +27,26 @@ impl Progress {
         Progress {
             at: 0,
             section: 0,
-            k: 0,
-            q: 0,
-            w: 0,
-            requests: 0,
-            acts_at: 0,
+            facts: Facts {
+                k: 0,
+                q: 0,
+                w: 0,
+                requests: 0,
+                acts_at: 0,
+            },
         }
     }
 
     // Past a record of a section, whose body has a size.
     pub fn past(mut self, section: u8, size: usize) -> Progress
-        requires { (self.at ≤ 65536) × (self.acts_at ≤ 65536) × (size ≤ 65536) }
+        requires { (self.at ≤ 65536) × (self.facts.acts_at ≤ 65536) × (size ≤ 65536) }
         ensures { result ≡ moved self section size }
     {
-        self.at = self.at + 4 + size;
+        self.at += HEADER_SIZE + size;
         self.section = section;
-        if section >= 4 {
-            return self;
+        if section < ACTS_SECTION {
+            self.facts.acts_at += HEADER_SIZE + size;
         }
-        self.acts_at = self.acts_at + 4 + size;
         self
     }
 
@@ -48,41 +54,41 @@ impl Progress {
         requires { length b.now ≡ 3 }
         ensures { result ≡ shaped self (shape_in b.now) }
     {
-        self.k = b[0];
-        self.q = b[1];
-        self.w = b[2];
+        self.facts.k = b[0];
+        self.facts.q = b[1];
+        self.facts.w = b[2];
         self
     }
 
     pub fn with_request(mut self) -> Progress
-        requires { self.requests ≤ 256 }
+        requires { self.facts.requests ≤ 256 }
         ensures { result ≡ asked self }
     {
-        self.requests = self.requests + 1;
+        self.facts.requests += 1;
         self
     }
 }
 
 fn mark(address: u8, marks: &mut [u8; 256])
-    requires { length marks.old ≡ 256 }
     ensures { marks.new ≡ set marks.old address 1 }
 {
     marks[address as usize] = 1;
 }
 
 // Past a record that is not refused: its shape, a mark at its word's address, or one request more.
-pub fn noted(b: &[u8], kind: u64, section: u8, p: Progress, marks: &mut [u8; 256]) -> Progress
-    requires { MayNote kind section b.now p marks.old }
-    ensures { Noted (item kind b.now) p marks.old result marks.new }
+pub fn noted(r: Record, p: Progress, marks: &mut [u8; 256]) -> Progress
+    requires { MayNote (number_of_kind r.kind) r.body.now p marks.old }
+    ensures { Noted (item (number_of_kind r.entry.kind) r.entry.body.now) p marks.old result marks.new }
 {
-    let next = p.past(section, b.len());
-    match kind {
-        1 => next.with_shape(b),
-        2 => {
+    let b = r.body;
+    let next = p.past(r.kind.section(), b.len());
+    match r.kind {
+        RecordKind::Shape => next.with_shape(b),
+        RecordKind::Word => {
             mark(b[0], marks);
             next
         }
-        3 => next.with_request(),
-        _ => next,
+        RecordKind::Request => next.with_request(),
+        RecordKind::Event | RecordKind::Drain => next,
     }
 }

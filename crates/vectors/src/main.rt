@@ -2,68 +2,32 @@
 // tools/pack-vectors says how they are packed.
 #![tactic(auto)]
 
-ghost use Rattle.std.specs.Prelude.{◌<◌, ◌≤◌};
+ghost use Rattle.std.specs.Prelude.{◌≤◌};
 
 use std::io;
 use std::io::{Print, Read};
 
-// What came of the next vector: the input is over or out of form; the reports are the same; or they differ.
+// No more vectors are compared.
+const MOST: u64 = 100000;
+
+// A vector that is not there to its end, or is longer than its room.
+#[derive(Clone, Copy, Debug, PartialEq, Eq)]
+struct OutOfForm;
+
+// Room for a vector.
+#[derive(Drop)]
+struct Room {
+    name: [u8; 256],
+    trace: [u8; 65600],
+    report: [u8; report::ROOM],
+}
+
+// A trace with its name, and the report that is expected.
 #[derive(Clone, Copy)]
-enum Compared {
-    Over,
-    Broken,
-    Same,
-    Differs,
-}
-
-// The number of `count` bytes at a place, least significant first, or 0 where they are not there; numbers stop at 2^32.
-fn number(bytes: &[u8], at: usize, count: usize) -> usize {
-    let mut i = count;
-    let mut n: usize = 0;
-    while 0 < i {
-        i -= 1;
-        if at < bytes.len() {
-            if i < bytes.len() - at {
-                n = n % 16777216 * 256 + wide(bytes[at + i]);
-            }
-        }
-    }
-    n
-}
-
-fn wide(b: u8) -> usize
-    ensures { result < 256 }
-{
-    b as usize
-}
-
-// Reads n bytes to the start of a buffer; false where they are not there or do not fit.
-fn filled<R: Read>(reader: &mut R, buffer: &mut [u8], n: usize) -> bool {
-    if buffer.len() < n {
-        return false;
-    }
-    reader.read_exact(&mut buffer[..n]).is_ok()
-}
-
-// Writes the first n bytes of a buffer, as far as it has them.
-fn show(out: &impl Print, buffer: &[u8], n: usize) -> io::Result<()> {
-    if n <= buffer.len() {
-        out.write_all(&buffer[..n])?;
-    }
-    Ok(())
-}
-
-// Whether the report of the first n bytes of a trace is the first m bytes of what is expected.
-fn reported(trace: &[u8], n: usize, expected: &[u8], m: usize, text: &mut [u8]) -> bool {
-    if trace.len() < n {
-        return false;
-    }
-    if expected.len() < m {
-        return false;
-    }
-    let written = report::report(&trace[..n], text);
-    let len = written.len;
-    check::same(&text[..len], &expected[..m])
+struct Vector<'a> {
+    name: &'a [u8],
+    trace: &'a [u8],
+    report: &'a [u8],
 }
 
 // How long a vector's name, trace and report are.
@@ -74,121 +38,107 @@ struct Lengths {
     report: usize,
 }
 
-fn read_lengths(head: &[u8]) -> Lengths {
-    Lengths {
-        name: number(head, 0, 2),
-        trace: number(head, 2, 4),
-        report: number(head, 6, 4),
+// Each number least significant byte first.
+impl From<[u8; 10]> for Lengths {
+    fn from(head: [u8; 10]) -> Lengths {
+        let [n0, n1, t0, t1, t2, t3, r0, r1, r2, r3] = head;
+        Lengths {
+            name: usize::from(u16::from_le_bytes([n0, n1])),
+            trace: u32::from_le_bytes([t0, t1, t2, t3]) as usize,
+            report: u32::from_le_bytes([r0, r1, r2, r3]) as usize,
+        }
     }
 }
 
-fn tell(out: &impl Print, name: &[u8], n: usize) -> io::Result<()> {
-    out.write_all(b"differs: ")?;
-    show(out, name, n)?;
-    out.write_all(b"\n")
-}
-
-fn compare_next<R: Read>(
+// The next n bytes of the input.
+fn filled<'a, R: Read, const N: usize>(
     reader: &mut R,
-    out: &impl Print,
-    head: &mut [u8],
-    name: &mut [u8],
-    trace: &mut [u8],
-    expected: &mut [u8],
-    text: &mut [u8],
-) -> Compared {
-    if !filled(reader, head, 10) {
-        return Compared::Over;
+    buffer: &'a mut [u8; N],
+    n: usize,
+) -> Result<&'a [u8], OutOfForm> {
+    let part = buffer.get_mut(..n).ok_or(OutOfForm)?;
+    match reader.read_exact(part) {
+        Ok(()) => Ok(part),
+        Err(_) => Err(OutOfForm),
     }
-    let long = read_lengths(head);
-    if !filled(reader, name, long.name) {
-        return Compared::Broken;
-    }
-    if !filled(reader, trace, long.trace) {
-        return Compared::Broken;
-    }
-    if !filled(reader, expected, long.report) {
-        return Compared::Broken;
-    }
-    if reported(trace, long.trace, expected, long.report, text) {
-        return Compared::Same;
-    }
-    // where standard output cannot be written, there is nobody to tell
-    let _told = tell(out, name, long.name);
-    Compared::Differs
 }
 
+impl Room {
+    // The next vector of the input; none where the input is over.
+    fn next<R: Read>(&mut self, reader: &mut R) -> Result<Option<Vector<'_>>, OutOfForm> {
+        let mut head = [0u8; 10];
+        if reader.read_exact(&mut head).is_err() {
+            return Ok(None);
+        }
+        let long = Lengths::from(head);
+        let name = filled(reader, &mut self.name, long.name)?;
+        let trace = filled(reader, &mut self.trace, long.trace)?;
+        let report = filled(reader, &mut self.report, long.report)?;
+        Ok(Some(Vector {
+            name,
+            trace,
+            report,
+        }))
+    }
+}
+
+impl<'a> Vector<'a> {
+    // Whether the report of the trace is what is expected.
+    fn is_reported(self, text: &mut [u8]) -> bool {
+        let len = report::report(self.trace, text).unwrap_or(0);
+        &text[..len] == self.report
+    }
+
+    fn tell(self, out: &impl Print) -> io::Result<()> {
+        out.write_all(b"differs: ")?;
+        out.write_all(self.name)?;
+        out.write_all(b"\n")
+    }
+}
+
+// How many vectors ran, and of how many the report differs.
 #[derive(Clone, Copy)]
 struct Tally {
     ran: u64,
     differ: u64,
-    broken: bool,
 }
 
-// All vectors, at most 100,000.
 fn compare_all<R: Read>(
     reader: &mut R,
     out: &impl Print,
-    head: &mut [u8],
-    name: &mut [u8],
-    trace: &mut [u8],
-    expected: &mut [u8],
+    room: &mut Room,
     text: &mut [u8],
-) -> Tally
-    ensures { (result.ran ≤ 100000) × (result.differ ≤ 100000) }
+) -> (Tally, Result<(), OutOfForm>)
+    ensures { (result.0.ran ≤ 100000) × (result.0.differ ≤ 100000) }
 {
-    let mut ran: u64 = 0;
-    let mut differ: u64 = 0;
-    while ran < 100000 {
-        let compared = compare_next(reader, out, head, name, trace, expected, text);
-        match compared {
-            Compared::Over => {
-                return Tally {
-                    ran,
-                    differ,
-                    broken: false,
-                };
+    let mut tally = Tally { ran: 0, differ: 0 };
+    for _ in 0..MOST {
+        match room.next(reader) {
+            Ok(Some(vector)) => {
+                tally.ran += 1;
+                if !vector.is_reported(text) {
+                    tally.differ += 1;
+                    // where standard output cannot be written, there is nobody to tell
+                    let _told = vector.tell(out);
+                }
             }
-            Compared::Broken => {
-                return Tally {
-                    ran,
-                    differ,
-                    broken: true,
-                };
-            }
-            Compared::Same => {
-                ran += 1;
-            }
-            Compared::Differs => {
-                ran += 1;
-                differ += 1;
-            }
+            Ok(None) => break,
+            Err(e) => return (tally, Err(e)),
         }
     }
-    Tally {
-        ran,
-        differ,
-        broken: false,
-    }
+    (tally, Ok(()))
 }
 
 fn main(rt: HostRuntime) -> io::Result<()> {
-    let mut head = [0u8; 10];
-    let mut name = [0u8; 256];
-    let mut trace = [0u8; 65600];
-    let mut expected = [0u8; report::ROOM];
+    let mut room = Room {
+        name: [0; 256],
+        trace: [0; 65600],
+        report: [0; report::ROOM],
+    };
     let mut text = [0u8; report::ROOM];
     let out = rt.stdout();
-    let tally = compare_all(
-        &mut rt.stdin(),
-        &out,
-        &mut head,
-        &mut name,
-        &mut trace,
-        &mut expected,
-        &mut text,
-    );
-    if tally.broken {
+    let (tally, form) = compare_all(&mut rt.stdin(), &out, &mut room, &mut text);
+    if form.is_err() {
         out.write_all(b"the vectors are out of form\n")?;
     }
     println!(rt; "{} vectors ran, {} differ", tally.ran, tally.differ)

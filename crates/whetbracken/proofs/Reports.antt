@@ -1,11 +1,12 @@
 -- No report is empty, so the length 0 says that the buffer was too small.
 use Prim.Native.Nat.{ℕ, ◌<◌}
-use mathlib.Core.Path.{◌≡◌, refl, ◌∙◌}
+use mathlib.Core.Path.{◌≡◌, refl, ◌∙◌, ap}
 use mathlib.Core.Bool.{Bool, true, false}
 use mathlib.Core.List.{List, ◌++◌}
 use native.Mathlib.Omega.{arith}
 use lib.ListN.{length, length-append}
 use lib.Dec.{leb}
+use Rattle.std.specs.Prelude.{Option, Some, None, unwrap_or}
 use Rattle.lists.specs.Choice.{choose}
 use Rattle.digits.specs.Numeral.{bytes_of}
 use Rattle.text.specs.Text.{reply_lines, order_lines, word_lines, count_lines, accepted_text, refused_text}
@@ -38,8 +39,8 @@ unfolding report
 report-some trace = verdict-some (check trace)
 
 pub none-no-room : {trace before after : List ℕ} → Wrote trace before 0 after → leb report_room (length before) ≡ false
-none-no-room {trace} {before} w = go (leb report_room (length before)) (w.len_is ∙ w.reported.len_is)
+none-no-room {trace} {before} w = go (leb report_room (length before)) (w.len_is ∙ ap (λ (r : Option ℕ). unwrap_or r 0) w.reported.len_is)
   where
-    go : (b : Bool) → 0 ≡ choose b (length (report trace)) 0 → b ≡ false
+    go : (b : Bool) → 0 ≡ unwrap_or (choose b (Some (length (report trace))) None) 0 → b ≡ false
     go true e = absurd (omega (arith, report-some trace))
     go false e = refl

@@ -4,15 +4,14 @@ use Prim.Native.Nat.{ℕ, ◌≤◌}
 use mathlib.Core.Path.{◌≡◌, sym, ◌∙◌, ap}
 use mathlib.Core.List.{List}
 use native.Mathlib.Omega.{arith}
+use Rattle.std.specs.Prelude.{Ok, Err}
 use Rattle.trace.proofs.Answers.{number-range}
-use Rattle.report.specs.declared.Written.{Written}
+use Rattle.std.specs.Prelude.{Option, unwrap_or}
 use Rattle.report.proofs.Unique.{only_one as only-one-written}
-use Rattle.listing.specs.declared.Printed.{Printed}
 use Rattle.listing.proofs.Unique.{only_one as only-one-printed}
 use Rattle.model.specs.Result.{Lent}
-use Rattle.model.specs.Promise.{Said, refused, counted, says}
-use Rattle.model.specs.declared.Answer.{Answer}
-use Rattle.model.specs.declared.Answer.TheVariants.{Accepted, Refused, NoRoom}
+use Rattle.model.specs.Promise.{Said, refused, counted, Answer, says}
+use Rattle.model.specs.declared.Refusal.TheVariants.{Trace, NoRoom}
 use Rattle.model.proofs.Unique.{says-injective}
 use Rattle.whetbracken.specs.Interface.{numbers, Answered, Wrote, ItemsPrinted}
 use Rattle.whetbracken.specs.declared.Numbers.{Numbers}
@@ -25,13 +24,13 @@ pub only-one-report : (trace before : List ℕ) (n n' : ℕ) (after after' : Lis
     (n ≡ n') × (after ≡ after')
 only-one-report trace before n n' after after' p p' =
     let z = only-one-written trace before p.written p'.written after after' p.reported p'.reported in
-    (p.len_is ∙ ap (λ (w : Written). w.len) z.0 ∙ sym p'.len_is, z.1)
+    (p.len_is ∙ ap (λ (w : Option ℕ). unwrap_or w 0) z.0 ∙ sym p'.len_is, z.1)
 
 pub only-one-listing : (trace before : List ℕ) (n n' : ℕ) (after after' : List ℕ) → ItemsPrinted trace before n after → ItemsPrinted trace before n' after' →
     (n ≡ n') × (after ≡ after')
 only-one-listing trace before n n' after after' p p' =
     let z = only-one-printed trace before p.printed p'.printed after after' p.listed p'.listed in
-    (p.len_is ∙ ap (λ (w : Printed). w.len) z.0 ∙ sym p'.len_is, z.1)
+    (p.len_is ∙ ap (λ (w : Option ℕ). unwrap_or w 0) z.0 ∙ sym p'.len_is, z.1)
 
 -- ---- no refusal has number 0
 abbrev Numbered : Said → Type 0
@@ -39,9 +38,9 @@ Numbered (refused n offset) = 1 ≤ n
 Numbered (counted ordered accesses merges rounds) = Unit {0}
 
 numbered : (a : Answer) → Numbered (says a)
-numbered (Accepted c) = tt
-numbered (Refused f offset) = (number-range f).0
-numbered NoRoom = omega arith
+numbered (Ok c) = tt
+numbered (Err (Trace r)) = (number-range r.fault).0
+numbered (Err NoRoom) = omega arith
 
 refusal_is : {r r' : Numbers} → r ≡ r' → r.refusal ≡ r'.refusal
 refusal_is e = ap (λ (r : Numbers). r.refusal) e

@@ -1,14 +1,11 @@
 -- What the C interface promises, for every trace and all lent memory: the promises of `model`, `report` and `listing`, the answer in six
 -- numbers. The writer's is its own (writing/specs/Promise).
-use Rattle.std.specs.Prelude.{ℕ, ◌≡◌, List}
+use Rattle.std.specs.Prelude.{ℕ, ◌≡◌, List, Option, unwrap_or}
 use Rattle.report.specs.Written.{Reported}
-use Rattle.report.specs.declared.Written.{Written}
 use Rattle.listing.specs.Listing.{Listed}
-use Rattle.listing.specs.declared.Printed.{Printed}
 use Rattle.model.specs.Result.{Lent}
-use Rattle.model.specs.Promise.{Said, refused, counted, says}
+use Rattle.model.specs.Promise.{Said, refused, counted, Answer, says}
 use Rattle.model.specs.Demands.{Kept}
-use Rattle.model.specs.declared.Answer.{Answer}
 use Rattle.whetbracken.specs.declared.Numbers.{Numbers}
 
 -- "The answer is the number and the offset"; "Also returned: order length, module accesses .., merges, rounds". No refusal has number
@@ -25,12 +22,12 @@ pub record Answered (trace : List ℕ) (before : Lent) (r : Numbers) (after : Le
 
 -- the length of what keeps the promise of `report`: 0 where the buffer has no room for every report, and then it stays
 pub record Wrote (trace before : List ℕ) (len : ℕ) (after : List ℕ) : Type 0 where
-  pub written : Written
-  pub len_is : len ≡ written.len
+  pub written : Option ℕ
+  pub len_is : len ≡ unwrap_or written 0
   pub reported : Reported trace before written after
 
 -- the length of what keeps the promise of `listing`: 0 where the buffer has no room for every listing, and then it stays
 pub record ItemsPrinted (trace before : List ℕ) (len : ℕ) (after : List ℕ) : Type 0 where
-  pub printed : Printed
-  pub len_is : len ≡ printed.len
+  pub printed : Option ℕ
+  pub len_is : len ≡ unwrap_or printed 0
   pub listed : Listed trace before printed after

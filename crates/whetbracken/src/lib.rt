@@ -9,12 +9,12 @@ ghost use Rattle.writing.specs.Rows.{rows};
 ghost use Rattle.writing.specs.Promise.{Promised};
 ghost use Rattle.whetbracken.specs.Interface.{numbers, Answered, Wrote, ItemsPrinted};
 
-use model::Answer;
+use model::{Counts, Refusal};
 use writing::Written;
 
 // What a trace is told, as numbers: 0 and the four counts of the run, or the refusal's number and its offset.
 #[repr(C)]
-#[derive(Clone, Copy)]
+#[derive(Clone, Copy, Default)]
 pub struct Numbers {
     pub refusal: u64,
     pub offset: u64,
@@ -22,6 +22,32 @@ pub struct Numbers {
     pub accesses: u64,
     pub merges: u64,
     pub rounds: u64,
+}
+
+// What is not told is 0.
+impl From<Result<Counts, Refusal>> for Numbers {
+    ghost from_gives = { λ told n. n ≡ numbers (says told) };
+
+    fn from(told: Result<Counts, Refusal>) -> Numbers {
+        match told {
+            Ok(c) => Numbers {
+                ordered: c.ordered as u64,
+                accesses: c.accesses,
+                merges: c.merges,
+                rounds: c.rounds,
+                ..Numbers::default()
+            },
+            Err(Refusal::Trace(r)) => Numbers {
+                refusal: u64::from(r.fault),
+                offset: r.offset as u64,
+                ..Numbers::default()
+            },
+            Err(Refusal::NoRoom) => Numbers {
+                refusal: 11,
+                ..Numbers::default()
+            },
+        }
+    }
 }
 
 // What a trace is told, with what its run gives in the lent reply values, reply marks, order places and words.
@@ -36,15 +62,14 @@ pub fn whetbracken_model(
         (lent replies.old marks.old order.old words.old) result
         (lent replies.new marks.new order.new words.new) }
 {
-    numbers_of(model::model(trace, replies, marks, order, words))
+    Numbers::from(model::model(trace, replies, marks, order, words))
 }
 
 // The report of a trace at the start of a lent buffer, and its length: 0 where the buffer has no room for every report.
 pub fn whetbracken_report(trace: &[u8], out: &mut [u8]) -> usize
     ensures { Wrote trace.now out.old result out.new }
 {
-    let written = report::report(trace, out);
-    written.len
+    report::report(trace, out).unwrap_or(0)
 }
 
 // The records of a list of items at the start of a lent output; a row of the list stands in three slices.
@@ -58,36 +83,5 @@ pub fn whetbracken_write(heads: &[u16], bytes: &[u8], words: &[u64], out: &mut [
 pub fn whetbracken_items(trace: &[u8], out: &mut [u8]) -> usize
     ensures { ItemsPrinted trace.now out.old result out.new }
 {
-    let printed = listing::listing(trace, out);
-    printed.len
-}
-
-fn numbers_of(told: Answer) -> Numbers
-    ensures { result ≡ numbers (says told) }
-{
-    match told {
-        Answer::Accepted(c) => Numbers {
-            refusal: 0,
-            offset: 0,
-            ordered: c.ordered as u64,
-            accesses: c.accesses,
-            merges: c.merges,
-            rounds: c.rounds,
-        },
-        Answer::Refused(f, at) => refused(trace::number_of(f) as u64, at as u64),
-        Answer::NoRoom => refused(11, 0),
-    }
-}
-
-fn refused(refusal: u64, offset: u64) -> Numbers
-    ensures { result ≡ record { refusal = refusal; offset = offset; ordered = 0; accesses = 0; merges = 0; rounds = 0 } }
-{
-    Numbers {
-        refusal,
-        offset,
-        ordered: 0,
-        accesses: 0,
-        merges: 0,
-        rounds: 0,
-    }
+    listing::listing(trace, out).unwrap_or(0)
 }

@@ -21,11 +21,9 @@ pub fn path_of(k: usize, engine: u64, address: u64) -> u64
     // the bits of the engine, then those of the module: the position at level s is what k bits of them show, k - s from the lowest on
     let mut route = (engine << k) + module_of(k, address);
     let mut path = 0;
-    let mut left = k + 1;
-    while 0 < left {
-        left -= 1;
+    for _ in 0..=k {
         path = path * 16 + module_of(k, route);
-        route = route / 2;
+        route /= 2;
     }
     path
 }

@@ -1,10 +1,11 @@
 -- The lowest place of a byte in a word, by all its bytes at once.
-use Rattle.std.proofs.Common.{◌≡◌, ℕ, zero, suc, ◌+◌, ◌-◌, ◌*◌, ◌/◌, ◌%◌, ◌^◌, ◌<◌, ◌≢◌, sym, ap, ◌∙◌, ap₂, mul_assoc, pow-suc, arith}
+use Rattle.std.proofs.Common.{◌≡◌, ℕ, zero, suc, ◌+◌, ◌-◌, ◌*◌, ◌/◌, ◌%◌, ◌^◌, ◌<◌, ◌≢◌, sym, ap, ◌∙◌, ap₂, mul_assoc, pow-suc, arith, None, Some, w64}
 use native.Mathlib.Decide.{ℕ_discrete}
 use lib.Bits.{bit_and, bit_xor, and_block, and_comm, and_shifted, and_le_l, and_le_r, xor_shr, xor_mod, xor_self, xor_add_and, xor_lt}
-use lib.Count.{count_trailing_zeros}
+use lib.Count.{count_trailing_zeros, trailing_of_zero}
+use Rattle.std.proofs.lemmas.Nat.Bits.{bit_at-trailing_zeros}
 use Rattle.lists.proofs.Tests.{by_cases}
-use Rattle.words.specs.Inner.Digits.{byte_in, PlaceOf}
+use Rattle.words.specs.Inner.Digits.{byte_in, PlaceOf, Lowest}
 use Rattle.words.proofs.Digits.{digit-zero, digit-suc}
 use Rattle.words.proofs.Zeros.{zeros-pass, zeros-stop}
 
@@ -97,9 +98,27 @@ ones = 0x0101010101010101
 abbrev highs : ℕ
 highs = 0x8080808080808080
 
-pub place_of : (w b s : ℕ) → b < 256 → w < 2 ^ 64 → (s + ones) % 2 ^ 64 ≡ bit_xor w (b * ones)
-    → PlaceOf 8 w b (count_trailing_zeros 64 (bit_and (bit_and s (2 ^ 64 - 1 - bit_xor w (b * ones))) highs) / 8)
-unfolding repeated
-place_of w b s l f h =
-    let e : b * ones ≡ repeated b 8 = omega arith in
-    from_zero 8 w b _ l (rw (← e) (zero-place 8 (bit_xor w (b * ones)) s ((s + ones) / 2 ^ 64) (xor_lt 64 w (b * ones) f (omega arith)) (omega arith)))
+-- what is marked where w ^ b at each byte is x, of all its bytes at once
+abbrev marked : ℕ → ℕ
+marked x = bit_and ((x + (2 ^ 64 - ones)) % 2 ^ 64) (2 ^ 64 - 1 - x)
+
+abbrev zeros_of : ℕ → ℕ → ℕ
+zeros_of w b = bit_and (marked (bit_xor w (b * ones))) highs
+
+module _ (w b : ℕ) (byte : b < 256) (word : w < 2 ^ 64) where
+  place_of : PlaceOf 8 w b (count_trailing_zeros 64 (zeros_of w b) / 8)
+  unfolding repeated
+  place_of =
+      let e : b * ones ≡ repeated b 8 = omega arith in
+      let x : ℕ = bit_xor w (b * ones) in
+      let s : ℕ = (x + (2 ^ 64 - ones)) % 2 ^ 64 in
+      let small : x < 2 ^ 64 = xor_lt 64 w (b * ones) word (omega arith) in
+      from_zero 8 w b _ byte (rw (← e) (zero-place 8 x s ((s + ones) / 2 ^ 64) small (omega arith)))
+
+  pub place-none : zeros_of w b ≡ 0 → Lowest 8 w b None
+  place-none e = rw (e, trailing_of_zero) at place_of
+
+  pub place-some : zeros_of w b ≢ 0 → Lowest 8 w b (Some (count_trailing_zeros 64 (zeros_of w b) / 8))
+  place-some n =
+      let few = bit_at-trailing_zeros w64 (zeros_of w b) (omega arith) (omega (arith, and_le_r (marked (bit_xor w (b * ones))) highs)) in
+      (omega (arith, few.0), place_of)

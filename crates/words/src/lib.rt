@@ -3,7 +3,7 @@
 
 ghost use Rattle.std.specs.Prelude.{◌≡◌, suc, ◌-◌, ◌<◌, ◌≤◌, ◌≢◌, ◌==◌};
 ghost use Rattle.lists.specs.Table.{update};
-ghost use Rattle.words.specs.Inner.Digits.{length_in, byte_in, bit_in, FirstBusy, Above, PlaceOf, Pushed, Topped, Without, LowBits};
+ghost use Rattle.words.specs.Inner.Digits.{length_in, byte_in, bit_in, FirstBusy, Above, Lowest, Pushed, Topped, Without, LowBits};
 
 // ---- sixteen lengths
 
@@ -91,14 +91,17 @@ const ONES: u64 = 0x0101010101010101;
 
 const HIGHS: u64 = 0x8080808080808080;
 
-// The lowest place of a byte, or 8 where it is nowhere. x has zero bytes where w has the byte; of `zeros` the lowest bit that is not 0
-// is the high bit of the lowest of them.
-pub fn place_of(w: u64, b: u8) -> usize
-    ensures { PlaceOf 8 w b result }
+// The lowest place of a byte. x has zero bytes where w has the byte; of `zeros` the lowest bit that is not 0 is the high bit of the lowest
+// of them.
+pub fn place_of(w: u64, b: u8) -> Option<usize>
+    ensures { Lowest 8 w b result }
 {
     let x = w ^ (b as u64 * ONES);
-    let zeros = std::num::wrapping_sub_u64(x, ONES) & !x & HIGHS;
-    u64::trailing_zeros(zeros) as usize / 8
+    let zeros = x.wrapping_sub(ONES) & !x & HIGHS;
+    if zeros == 0 {
+        return None;
+    }
+    Some(zeros.trailing_zeros() as usize / 8)
 }
 
 // ---- 64 marks

@@ -6,6 +6,7 @@ use mathlib.Core.List.{List}
 use native.Mathlib.Omega.{arith}
 use lib.ListN.{length, take}
 use lib.Seq.{take-append_seam}
+use Rattle.std.specs.Prelude.{Option, Result as Answer, Ok, Err}
 use Rattle.lists.specs.Over.{over}
 use Rattle.digits.specs.Inner.Buffer.{Wrote}
 use Rattle.digits.proofs.Buffer.{wrote-printed, printed-within, printed-text}
@@ -21,7 +22,6 @@ use Rattle.reading.specs.Text.{text_says, wrong_line}
 use Rattle.reading.specs.Inner.Row.{first_rows}
 use Rattle.reading.specs.Inner.Walk.{ItemsRead}
 use Rattle.reading.proofs.Lent.{lent-items}
-use Rattle.writer.specs.declared.made.Lengths.{Lengths}
 use Rattle.writer.specs.Told.{told_room, line_refused, wrong_text, refused_text}
 use Rattle.writer.specs.Made.{list_made, read_made, text_made, MadeIn}
 use Rattle.writer.proofs.Suffices.{first-suffice}
@@ -39,16 +39,16 @@ module _ {rows : Rows} {before after : List ℕ} {w : Written} (text : List ℕ)
   output : after ≡ output_after (result (entries rows) 65536) before
   output = subst (λ (n : ℕ). after ≡ output_after (result (entries rows) n) before) long p.output-is
 
-  pub refused-made : {line len : ℕ} {lent told' : List ℕ} → w.refusal ≢ 0 → line ≡ line_refused text w.refusal w.row →
+  pub refused-made : {line : Option ℕ} {len : ℕ} {lent told' : List ℕ} → w.refusal ≢ 0 → line ≡ line_refused text w.refusal w.row →
       Wrote lent 0 (refused_text w.refusal w.offset line) told' len → len ≤ told_room → told_room ≤ length lent →
-      MadeIn (list_made text (result (entries rows) 65536)) (record { trace = 0; told = len }) after told'
+      MadeIn (list_made text (result (entries rows) 65536)) (Err len) after told'
   unfolding list_made
   refused-made {line = line} {len = len} {told' = told'} some e written few room = go (result (entries rows) 65536) answer
     where
       line-told : (take len told' ≡ refused_text w.refusal w.offset line) × (len ≤ length told')
       line-told = told_in written few room
 
-      go : (r : Result) → w ≡ told r → MadeIn (list_made text r) (record { trace = 0; told = len }) after told'
+      go : (r : Result) → w ≡ told r → MadeIn (list_made text r) (Err len) after told'
       go (refusal number offset row) a = record {
         trace-is = refl;
         told_is =
@@ -60,12 +60,12 @@ module _ {rows : Rows} {before after : List ℕ} {w : Written} (text : List ℕ)
       go (acceptance xs) a = absurd (some (ap (λ (v : Written). v.refusal) a))
 
   pub accepted-made : {lent : List ℕ} → w.refusal ≡ 0 →
-      MadeIn (list_made text (result (entries rows) 65536)) (record { trace = w.len; told = 0 }) after lent
+      MadeIn (list_made text (result (entries rows) 65536)) (Ok w.len) after lent
   unfolding list_made output_after
   accepted-made {lent = lent} none = go (result (entries rows) 65536) refl answer output
     where
       go : (r : Result) → result (entries rows) 65536 ≡ r → w ≡ told r → after ≡ output_after r before →
-          MadeIn (list_made text r) (record { trace = w.len; told = 0 }) after lent
+          MadeIn (list_made text r) (Ok w.len) after lent
       go (refusal number offset row) e a o =
           absurd (omega (arith, result-some (entries rows) 65536 number offset row e, ap (λ (v : Written). v.refusal) a, none))
       go (acceptance xs) e a o = record {
@@ -79,13 +79,13 @@ module _ {rows : Rows} {before after : List ℕ} {w : Written} (text : List ℕ)
 
 pub wrong-made : (text : List ℕ) {out lent told' : List ℕ} {number : ℕ} {reason : Reason} {place len : ℕ} → text_says text ≡ wrong_line number reason place →
     Wrote lent 0 (wrong_text number reason place) told' len → len ≤ told_room → told_room ≤ length lent →
-    MadeIn (text_made text) (record { trace = 0; told = len }) out told'
+    MadeIn (text_made text) (Err len) out told'
 unfolding text_made read_made
 wrong-made text e written few room =
     let line = told_in written few room in
     rw e (record { trace-is = refl; told_is = line.0; trace-counts = omega arith; told-counts = line.1 })
 
-pub items-made : (text : List ℕ) {out told' : List ℕ} {before : Rows} {n : ℕ} {r : Rows} {l : Lengths} → ItemsRead text before n r → row_count before ≡ 10923 →
+pub items-made : (text : List ℕ) {out told' : List ℕ} {before : Rows} {n : ℕ} {r : Rows} {l : Answer ℕ ℕ} → ItemsRead text before n r → row_count before ≡ 10923 →
     MadeIn (list_made text (result (entries (first_rows n r)) 65536)) l out told' → MadeIn (text_made text) l out told'
 unfolding text_made read_made
 items-made text {out = out} {told' = told'} {before = before} {n = n} {l = l} read many made =

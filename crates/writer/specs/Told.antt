@@ -1,5 +1,5 @@
 -- The lines that the writer tells on standard error: request No. 1 of document 02.
-use Rattle.std.specs.Prelude.{ℕ, List, [], ◌∷◌, ◌++◌, get_or, eqb}
+use Rattle.std.specs.Prelude.{ℕ, List, [], ◌∷◌, ◌++◌, slice_get, eqb, Option, None, Some}
 use Rattle.lists.specs.Choice.{choose}
 use Rattle.digits.specs.Numeral.{bytes_of, decimal}
 use Rattle.digits.specs.Line.{line}
@@ -23,14 +23,14 @@ reason_fields TooLarge place = bytes_of "field" ∷ decimal place ∷ bytes_of "
 unfoldable pub wrong_text : ℕ → Reason → ℕ → List ℕ
 wrong_text number reason place = line (bytes_of "line" ∷ (decimal number ++ bytes_of ":") ∷ reason_fields reason place)
 
--- the line of the item that is refused, 0 where there is none: 10 is about the list, and an empty list has no item
-unfoldable pub line_refused : List ℕ → ℕ → ℕ → ℕ
-line_refused text refusal row = choose (eqb refusal 10) 0 (get_or (item_lines text) row 0)
+-- the line of the item that is refused, none where there is none: 10 is about the list, and an empty list has no item
+unfoldable pub line_refused : List ℕ → ℕ → ℕ → Option ℕ
+line_refused text refusal row = choose (eqb refusal 10) None (slice_get (item_lines text) row)
 
--- no line has the number 0
-unfoldable pub line_fields : ℕ → List (List ℕ)
-line_fields number = choose (eqb number 0) [] (bytes_of "line" ∷ decimal number ∷ [])
+unfoldable pub line_fields : Option ℕ → List (List ℕ)
+line_fields None = []
+line_fields (Some number) = bytes_of "line" ∷ decimal number ∷ []
 
 -- "`refused N OFFSET line L`, or for 10 and for an empty list `refused N 0`"
-unfoldable pub refused_text : ℕ → ℕ → ℕ → List ℕ
-refused_text refusal offset number = line (bytes_of "refused" ∷ decimal refusal ∷ decimal offset ∷ line_fields number)
+unfoldable pub refused_text : ℕ → ℕ → Option ℕ → List ℕ
+refused_text refusal offset of-line = line (bytes_of "refused" ∷ decimal refusal ∷ decimal offset ∷ line_fields of-line)

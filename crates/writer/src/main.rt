@@ -2,27 +2,31 @@
 // refused, is told in one line on standard error; then standard output stays empty.
 #![tactic(auto)]
 
-use input::read_all;
+use input::Program;
 use made::text_made;
 use std::io::Print;
 
 mod made;
 mod told;
 
+const WRITER: Program = Program {
+    name: "writer",
+    writes: "trace",
+};
+
 // How many bytes of lines are taken.
 const LONGEST_TEXT: usize = 1048576;
 
 // The trace of the items that a text says, to standard output; or what is told instead, to standard error.
-fn write_trace(stdout: &impl Print, stderr: &impl Print, text: &[u8]) {
+fn write_trace(rt: &(impl Print + Eprint), stderr: &impl Print, text: &[u8]) {
     let mut out = [0u8; trace::LONGEST];
     let mut told = [0u8; told::ROOM];
-    let made = text_made(text, &mut out, &mut told);
-    let t = made.told;
-    let n = made.trace;
-    // where standard error cannot be written, there is nobody to tell
-    let _line = stderr.write_all(&told[..t]);
-    if stdout.write_all(&out[..n]).is_err() {
-        let _told = stderr.write_all(b"writer: the trace cannot be written\n");
+    match text_made(text, &mut out, &mut told) {
+        Ok(len) => WRITER.write(rt, &out[..len]),
+        Err(len) => {
+            // where standard error cannot be written, there is nobody to tell
+            let _line = stderr.write_all(&told[..len]);
+        }
     }
 }
 
@@ -34,17 +38,12 @@ fn text_room() -> [u8; LONGEST_TEXT + 1] {
 
 fn main(rt: HostRuntime) {
     let mut text = text_room();
-    let input = read_all(&mut rt.stdin(), &mut text);
-    if !input.ended {
-        let _told = rt
-            .stderr()
-            .write_all(b"writer: standard input cannot be read\n");
+    let Some(n) = WRITER.read(&rt, &mut rt.stdin(), &mut text) else {
         return;
-    }
-    let n = input.len;
+    };
     if n > LONGEST_TEXT {
-        let _told = rt.stderr().write_all(b"writer: more than 1048576 bytes\n");
+        let _told = eprintln!(rt; "writer: more than {LONGEST_TEXT} bytes");
         return;
     }
-    write_trace(&rt.stdout(), &rt.stderr(), &text[..n]);
+    write_trace(&rt, &rt.stderr(), &text[..n]);
 }

@@ -1,55 +1,30 @@
 -- Numbers in bytes, byte by byte, and the room behind what was written.
-use Prim.Native.Nat.{ℕ, suc, ◌+◌, ◌-◌, ◌/◌, ◌%◌, ◌≤◌, ◌<◌}
-use mathlib.Core.Path.{◌≡◌, refl, ap, sym, ◌∙◌}
-use mathlib.Core.List.{List, [], ◌∷◌, ◌++◌, append_assoc, append-nil}
+use Prim.Native.Nat.{ℕ, ◌+◌, ◌≤◌}
+use mathlib.Core.Path.{◌≡◌, refl}
+use mathlib.Core.List.{List}
+use native.Mathlib.Nat.{div-div-eq-div-mul}
 use native.Mathlib.Omega.{arith}
+use Rattle.std.specs.Int.{w16, w64, to_le_bytes}
 use lib.ListN.{length, take, drop, length-drop}
-use lib.Seq.{length-sets, length-take-le}
-use Rattle.digits.specs.Inner.Buffer.{Wrote}
-use Rattle.digits.proofs.Buffer.{wrote_nothing, wrote_then}
+use lib.Seq.{length-take-le}
+use Rattle.digits.specs.Inner.Buffer.{HasRoom, Writes}
+use Rattle.digits.specs.declared.LentBuffer.{LentBuffer}
+use Rattle.digits.proofs.Buffer.{size-kept}
 use Rattle.trace.specs.Write.{bytes}
 
--- what is written of a number in `count` bytes after i of them, and what is left of it
-pub record Spelling (out₀ : List ℕ) (at count v : ℕ) (out : List ℕ) (next rest i : ℕ) : Type 0 where
-  pub front : List ℕ
-  pub wrote : Wrote out₀ at front out next
-  pub whole : front ++ bytes (count - i) rest ≡ bytes count v
-  pub low : i ≤ count
-  pub size : length out ≡ length out₀
-  pub next-is : next ≡ at + i
-
--- none of them yet; one more; all
-pub spelling-start : (out : List ℕ) (at count v : ℕ) → Spelling out at count v out at v 0
-spelling-start out at count v =
-    let all : count - 0 ≡ count = omega arith in
-    record { front = []; wrote = wrote_nothing out at; whole = ap (λ (n : ℕ). bytes n v) all; low = omega arith; size = refl; next-is = omega arith }
-
-pub spelling-more : {out₀ : List ℕ} {at count v : ℕ} {out : List ℕ} {next rest i : ℕ} → Spelling out₀ at count v out next rest i → i < count →
-    {out' : List ℕ} {next' : ℕ} → Wrote out next (rest % 256 ∷ []) out' next' → Spelling out₀ at count v out' next' (rest / 256) (i + 1)
+-- std's bytes of a number are those of a field
+pub two_bytes : (v : ℕ) → to_le_bytes w16 v ≡ bytes 2 v
 unfolding bytes
-spelling-more {out₀} {at} {count} {v} {out} {next} {rest} {i} s low w =
-    let left : count - i ≡ suc (count - (i + 1)) = omega arith in
-    record {
-      front = s.front ++ (rest % 256 ∷ []);
-      wrote = wrote_then s.wrote w;
-      whole = append_assoc s.front (rest % 256 ∷ []) (bytes (count - (i + 1)) (rest / 256)) ∙ (rw left at s.whole);
-      low = omega arith;
-      size = rw w.bytes (length-sets out next (rest % 256 ∷ [])) ∙ s.size;
-      next-is = omega (arith, w.behind, s.next-is);
-    }
+two_bytes v = refl
 
-pub spelling-done : {out₀ : List ℕ} {at count v : ℕ} {out : List ℕ} {next rest i : ℕ} → Spelling out₀ at count v out next rest i → count ≤ i →
-    Wrote out₀ at (bytes count v) out next
+pub eight_bytes : (v : ℕ) → to_le_bytes w64 v ≡ bytes 8 v
 unfolding bytes
-spelling-done {out₀} {at} {count} {v} {out} {next} {rest} {i} s high =
-    let none : count - i ≡ 0 = omega arith in
-    let all : s.front ≡ bytes count v = sym (append-nil s.front) ∙ (rw none at s.whole) in
-    rw all at s.wrote
+eight_bytes v = simp div-div-eq-div-mul
 
 -- room behind what was written
-pub room-behind : {before : List ℕ} {at : ℕ} {first middle : List ℕ} {next : ℕ} → Wrote before at first middle next → (n m : ℕ) → length first ≡ n →
-    at + n + m ≤ length before → next + m ≤ length middle
-room-behind {before} {at} {first} w n m e h = rw (w.bytes, length-sets before at first) (omega (arith, w.behind, e, h))
+pub room-after : {out : LentBuffer} {first : List ℕ} {middle : LentBuffer} → Writes out first middle → (n m : ℕ) → length first ≡ n →
+    HasRoom out (n + m) → HasRoom middle m
+room-after w n m e h = omega (arith, size-kept w, w.wrote.behind, e, h)
 
 -- the first numbers of a part of a list
 pub length_part : (count from : ℕ) (l : List ℕ) → from + count ≤ length l → length (take count (drop from l)) ≡ count

@@ -8,9 +8,11 @@ use native.Mathlib.Numerals.{add-one}
 use native.Mathlib.Omega.{arith}
 use lib.ListN.{drop, replicate, length-replicate, get_or-replicate, drop_of_length-le}
 use lib.Seq.{drop-cons}
+use Rattle.std.specs.Prelude.{Result, Ok, Err, MatchResult, IsErrAnd}
 use Rattle.lists.specs.Search.{some}
 use Rattle.lists.specs.Table.{list_below}
 use Rattle.lists.proofs.Below.{length-below, get_or-below}
+use Rattle.lists.proofs.Tests.{clash}
 use Rattle.trace.specs.Item.{Items, none, after}
 use Rattle.trace.specs.Table.{is_row, record_size, size}
 use Rattle.trace.specs.Contents.{contents, last_section, acts_offset}
@@ -21,14 +23,12 @@ use Rattle.trace.specs.Inner.Known.{RecordFault, begun}
 use Rattle.trace.specs.declared.Fault.{Fault}
 use Rattle.trace.specs.declared.Fault.TheVariants.{Kind, Order}
 use Rattle.trace.specs.declared.progress.Progress.{Progress}
-use Rattle.trace.specs.declared.rules.Finding.TheVariants as finding
 use Rattle.trace.proofs.Answers.{number-range}
 use Rattle.writing.specs.Rows.{Rows, row_count, Entry, known, unknown, entry, entries}
 use Rattle.writing.specs.Writing.{records_of, list_size, entry_size, count}
 use Rattle.writing.specs.Inner.Records.{row_at}
 use Rattle.writing.specs.Inner.Checked.{MayCheck, BodyPasses, BodyTurn, RowTurn, verdict_of, Inside, IsClean, IsFaulty}
-use Rattle.writing.specs.declared.check.Turn.{Turn}
-use Rattle.writing.specs.declared.check.Turn.TheVariants.{Fail, Go}
+use Rattle.writing.specs.declared.check.Faulty.{Faulty}
 use Rattle.writing.proofs.Entries.{item_at, entry_known, entry-unknown}
 
 -- the rows from i on
@@ -73,7 +73,7 @@ module _ {r : Rows} {i : ℕ} {p : Progress} {marks : List ℕ} (s : Inside r i 
   row-unknown is = fails Kind (with_row unknown (entry-unknown r i is))
 
   module _ (is : is_row (row_at r i) ≡ true) where
-    pub row-faulty : (f : Fault) → RecordFault p marks (item_at r i is) (finding.Faulty f) → IsFaulty (verdict_of r) f p.at i
+    pub row-faulty : (f : Fault) → RecordFault p marks (item_at r i is) (Err f) → IsFaulty (verdict_of r) f p.at i
     unfolding records_of check_records
     row-faulty f found =
         let x = item_at r i is in
@@ -99,9 +99,9 @@ module _ {r : Rows} {i : ℕ} {p : Progress} {marks : List ℕ} (s : Inside r i 
         }
 
     -- what came of the row
-    pub row-turn : (t : Turn) (marks' : List ℕ) → BodyTurn (item_at r i is) p marks t marks' → RowTurn r i p t marks'
-    row-turn (Fail f) marks' found = row-faulty f found
-    row-turn (Go p') marks' passes = row-passes passes
+    pub row-turn : (t : Result Progress Fault) (marks' : List ℕ) → BodyTurn (item_at r i is) p marks t marks' → RowTurn r i p t marks'
+    row-turn (Err f) marks' found = row-faulty f found
+    row-turn (Ok p') marks' passes = row-passes passes
 
 -- ---- the start, and the end
 pub inside-start : (r : Rows) → list_size (entries r) ≤ 65536 → Inside r 0 begun (replicate 256 0)
@@ -148,3 +148,12 @@ module _ {r : Rows} {i : ℕ} {p : Progress} {marks : List ℕ} (s : Inside r i 
       go : (xs : Items) → count xs ≡ i → p.at ≡ size xs → verdict_of r ≡ ended xs → IsClean (verdict_of r) p.at
       go none e z v = absurd (omega (arith, some-there))
       go (after xs x) e z v = record { items = after xs x; accepts = v; size_is = z }
+
+-- a row's fault is told with its offset and its row
+pub row-told : (r : Rows) (i : ℕ) (p : Progress) (marks : List ℕ) (t : Result Progress Fault) →
+    {u : Result Progress Faulty} {f : Faulty} {Q : Fault → Faulty → Type 0} → RowTurn r i p t marks →
+    MatchResult t (λ q. u ≡ Ok q) (λ e. IsErrAnd u (Q e)) →
+    ((e : Fault) (g : Faulty) → Q e g → g ≡ record { fault = e; offset = p.at; row = i }) →
+    u ≡ Err f → IsFaulty (verdict_of r) f.fault f.offset f.row
+row-told r i p marks (Ok q) turn told same is = clash (cc)
+row-told r i p marks (Err e) turn told same is = rw (same e _ (rw is at told)) turn

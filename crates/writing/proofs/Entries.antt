@@ -113,12 +113,12 @@ module _ (r : Rows) (i : ℕ) (is : is_row (row_at r i) ≡ true) where
       (picked_fits (cell r i) (cell-low typed i) (λ width. zero) (row_at r i).widths (kind-all rows-widths (kind_at r i) is))
 
   -- its body is one that the reader takes, and says the item
-  pub bodied-at : Bodied (kind_at r i) (row_at r i).section (body_at r i)
+  pub bodied-at : Bodied (kind_at r i) (body_at r i)
   bodied-at =
       let right = kind-right (kind_at r i) is in
       let found : body_row (kind_at r i) (length (body_at r i)) ≡ row_at r i =
       ap (body_row (kind_at r i)) (length-body-at r i) ∙ ap (λ (k : ℕ). body_row k (body_size (row_at r i))) (kind-found (kind_at r i) is) ∙ right.found in
-      record { right = rw found right.is-row; section-is = ap (λ (row : Row). row.section) (sym found) }
+      record { right = rw found right.is-row }
 
   pub item-at : Typed r → item (kind_at r i) (body_at r i) ≡ item_at
   item-at typed =

@@ -15,7 +15,7 @@ use Rattle.lists.proofs.Tests.{by_cases}
 use Rattle.trace.specs.Bytes.{total}
 use Rattle.trace.specs.Table.{Row, rows, body_size, is_row, kind_row}
 use Rattle.trace.proofs.Table.{kind-all, kind-none}
-use Rattle.writing.specs.Rows.{Rows, entry}
+use Rattle.writing.specs.Rows.{Rows, row_count, entry, entries}
 use Rattle.writing.specs.Writing.{list_size}
 use Rattle.writing.specs.Inner.Sizes.{size_to}
 use Rattle.writing.proofs.Entries.{entry-size}
@@ -38,6 +38,10 @@ pub size_is : (r : Rows) (n : ℕ) → size_to r.heads n ≡ list_size (list_bel
 unfolding size_to list_below list_size
 size_is r zero = refl
 size_is r (suc n) = omega (arith, size-append (list_below n (entry r)) (entry r n ∷ []), size_is r n, entry-size r n)
+
+pub list-size : (r : Rows) → size_to r.heads (row_count r) ≡ list_size (entries r)
+unfolding entries
+list-size r = size_is r (row_count r)
 
 -- no body has more than 19 bytes
 rows_few : All (λ (row : Row). ltb (body_size row) 20 ≡ true) rows

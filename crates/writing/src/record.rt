@@ -1,155 +1,111 @@
-// What the table of records says of a kind, and the record of a row.
+// The records of rows, as bytes.
 ghost use Rattle.std.specs.Prelude.{◌≡◌, ◌++◌, ◌+◌, ◌*◌, ◌≤◌, ◌<◌, length, get_or, take, drop};
-ghost use Rattle.digits.specs.Inner.Buffer.{Wrote};
+ghost use Rattle.digits.specs.Inner.Buffer.{HasRoom, Writes, Printed};
 ghost use Rattle.trace.specs.Table.{body_size};
 ghost use Rattle.trace.specs.Write.{bytes as spelled};
-ghost use Rattle.writing.specs.Rows.{rows};
-ghost use Rattle.writing.specs.Inner.Records.{kind_says, row_at, body_at, record_at, RowIn};
+ghost use Rattle.writing.specs.Rows.{row_count};
+ghost use Rattle.writing.specs.Inner.Lent.{lent};
+ghost use Rattle.writing.specs.Inner.Records.{row_at, body_at, record_at, records_to, RowIn};
 
-// The section of a kind's records, 0 where there is no such kind, and the size of their bodies.
-#[derive(Clone, Copy)]
-pub struct Kind {
-    pub section: u8,
-    pub size: usize,
+use crate::rows::Rows;
+use digits::LentBuffer;
+use trace::kind::RecordKind;
+
+// How many bytes the longest body has.
+pub const LONGEST_BODY: usize = 19;
+
+// A number in two bytes, least significant first.
+#[tactic(auto, using(crate::proofs::Bytes::two_bytes))]
+fn put_two(out: &mut LentBuffer, v: u16)
+    requires { HasRoom out.old 2 }
+    ensures { Writes out.old (spelled 2 v) out.new }
+{
+    out.bytes(&v.to_le_bytes());
 }
 
-pub fn kind_of(kind: u16) -> Kind
-    ensures { result ≡ kind_says kind }
+// And in eight.
+#[tactic(auto, using(crate::proofs::Bytes::eight_bytes))]
+fn put_eight(out: &mut LentBuffer, v: u64)
+    requires { HasRoom out.old 8 }
+    ensures { Writes out.old (spelled 8 v) out.new }
 {
-    match kind {
-        1 => Kind {
-            section: 1,
-            size: 3,
-        },
-        2 => Kind {
-            section: 2,
-            size: 9,
-        },
-        3 => Kind {
-            section: 3,
-            size: 19,
-        },
-        4 => Kind {
-            section: 4,
-            size: 3,
-        },
-        5 => Kind {
-            section: 4,
-            size: 2,
-        },
-        _ => Kind {
-            section: 0,
-            size: 0,
-        },
+    out.bytes(&v.to_le_bytes());
+}
+
+impl<'a> Rows<'a> {
+    // The first one-byte numbers of row i, and its first eight-byte one.
+    fn put_ones_and_eight(self, i: usize, ones: usize, out: &mut LentBuffer)
+        requires ones_in { 10 * i + ones ≤ length (lent self).bytes }
+        requires eight_in { 8 * i < length (lent self).words }
+        requires room { HasRoom out.old (ones + 8) }
+        ensures { Writes out.old
+            (take ones (drop (10 * i) (lent self.entry).bytes) ++ spelled 8 (get_or (lent self.entry).words (8 * i + 0) 0))
+            out.new }
+    {
+        out.bytes(self.ones(i, ones));
+        put_eight(out, self.eight(i, 0));
     }
-}
 
-// A number in `count` bytes, least significant first.
-pub fn put_number(out: &mut [u8], at: usize, count: usize, v: u64) -> usize
-    requires { at + count ≤ length out.old }
-    ensures { Wrote out.old at (spelled count v) out.new result }
-{
-    let mut next = at;
-    let mut rest = v;
-    for _ in 0..count {
-        next = digits::put_byte(out, next, (rest % 256) as u8);
-        rest = rest / 256;
-    }
-    next
-}
-
-// The first one-byte numbers of row i.
-fn put_ones(bytes: &[u8], i: usize, count: usize, out: &mut [u8], at: usize) -> usize
-    requires { (10 * i + count ≤ length bytes.now) × (at + count ≤ length out.old) }
-    ensures { Wrote out.old at (take count (drop (10 * i) bytes.now)) out.new result }
-{
-    let start = 10 * i;
-    let end = start + count;
-    digits::put_bytes(out, at, &bytes[start..end])
-}
-
-pub fn kind_at(heads: &[u16], i: usize) -> u16
-    requires { 2 * i < length heads.now }
-    ensures { result ≡ get_or heads.now (2 * i) 0 }
-{
-    heads[2 * i]
-}
-
-// The number of two bytes behind row i's kind.
-fn two_at(heads: &[u16], i: usize) -> u16
-    requires { 2 * i + 1 < length heads.now }
-    ensures { result ≡ get_or heads.now (2 * i + 1) 0 }
-{
-    heads[2 * i + 1]
-}
-
-// The number of eight bytes at place j of row i.
-fn eight_at(words: &[u64], i: usize, j: usize) -> u64
-    requires { 8 * i + j < length words.now }
-    ensures { result ≡ get_or words.now (8 * i + j) 0 }
-{
-    words[8 * i + j]
-}
-
-// The first one-byte numbers of row i, and its first eight-byte one.
-fn put_ones_and_eight(
-    bytes: &[u8],
-    words: &[u64],
-    i: usize,
-    ones: usize,
-    out: &mut [u8],
-    at: usize,
-) -> usize
-    requires { (10 * i + ones ≤ length bytes.now) × (8 * i < length words.now) × (at + ones + 8 ≤ length out.old) }
-    ensures { Wrote out.old at (take ones (drop (10 * i) bytes.now) ++ spelled 8 (get_or words.now (8 * i + 0) 0))
-        out.new result }
-{
-    let next = put_ones(bytes, i, ones, out, at);
-    put_number(out, next, 8, eight_at(words, i, 0))
-}
-
-// The body of row i's record: each field is the next of its width.
-pub fn put_body(
-    heads: &[u16],
-    bytes: &[u8],
-    words: &[u64],
-    i: usize,
-    out: &mut [u8],
-    at: usize,
-) -> usize
-    requires row_in { RowIn (rows heads.now bytes.now words.now) i }
-    requires i_in_bounds { at + body_size (row_at (rows heads.now bytes.now words.now) i) ≤ length out.old }
-    ensures { Wrote out.old at (body_at (rows heads.now bytes.now words.now) i) out.new result }
-{
-    match kind_at(heads, i) {
-        1 => put_ones(bytes, i, 3, out, at),
-        2 => put_ones_and_eight(bytes, words, i, 1, out, at),
-        3 => {
-            let next = put_ones_and_eight(bytes, words, i, 3, out, at);
-            put_number(out, next, 8, eight_at(words, i, 1))
+    // The size of the body of row i's record: nothing, where there is no such kind.
+    pub fn body_size(self, i: usize) -> usize
+        requires { 2 * i < length (lent self).heads }
+        ensures { result ≡ body_size (row_at (lent self.entry) i) }
+    {
+        match RecordKind::try_from(self.kind(i)) {
+            Ok(kind) => kind.body_size(),
+            Err(_) => 0,
         }
-        4 => put_ones(bytes, i, 3, out, at),
-        5 => put_number(out, at, 2, two_at(heads, i) as u64),
-        _ => at,
     }
-}
 
-// Row i's record: the length of its body, its kind, its body.
-pub fn put_record(
-    heads: &[u16],
-    bytes: &[u8],
-    words: &[u64],
-    i: usize,
-    out: &mut [u8],
-    at: usize,
-) -> usize
-    requires row_in { RowIn (rows heads.now bytes.now words.now) i }
-    requires i_in_bounds { at + 4 + body_size (row_at (rows heads.now bytes.now words.now) i) ≤ length out.old }
-    ensures { Wrote out.old at (record_at (rows heads.now bytes.now words.now) i) out.new result }
-{
-    let kind = kind_at(heads, i);
-    let told = kind_of(kind);
-    let next = put_number(out, at, 2, told.size as u64);
-    let body = put_number(out, next, 2, kind as u64);
-    put_body(heads, bytes, words, i, out, body)
+    // The body of row i's record: each field is the next of its width.
+    pub fn put_body(self, i: usize, out: &mut LentBuffer)
+        requires row_in { RowIn (lent self) i }
+        requires room { HasRoom out.old (body_size (row_at (lent self) i)) }
+        ensures { Writes out.old (body_at (lent self.entry) i) out.new }
+    {
+        let Ok(kind) = RecordKind::try_from(self.kind(i)) else {
+            return;
+        };
+        match kind {
+            RecordKind::Shape | RecordKind::Event => out.bytes(self.ones(i, 3)),
+            RecordKind::Word => self.put_ones_and_eight(i, 1, out),
+            RecordKind::Request => {
+                self.put_ones_and_eight(i, 3, out);
+                put_eight(out, self.eight(i, 1));
+            }
+            RecordKind::Drain => put_two(out, self.two(i)),
+        }
+    }
+
+    // The body of row i's record at the start of an array with room for the longest, and its length.
+    pub fn body_in(self, i: usize, out: &mut [u8; LONGEST_BODY]) -> usize
+        requires { RowIn (lent self) i }
+        ensures { Printed (body_at (lent self.entry) i) out.old out.new result }
+    {
+        let mut body = LentBuffer::new(out);
+        self.put_body(i, &mut body);
+        body.at
+    }
+
+    // Row i's record: the length of its body, its kind, its body.
+    pub fn put_record(self, i: usize, out: &mut LentBuffer)
+        requires row_in { RowIn (lent self) i }
+        requires room { HasRoom out.old (4 + body_size (row_at (lent self) i)) }
+        ensures { Writes out.old (record_at (lent self.entry) i) out.new }
+    {
+        put_two(out, self.body_size(i) as u16);
+        put_two(out, self.kind(i));
+        self.put_body(i, out);
+    }
+
+    // The records of all rows.
+    pub fn put_records(self, out: &mut LentBuffer)
+        requires { HasRoom out.old (length (records_to (lent self) (row_count (lent self)))) }
+        ensures { Writes out.old (records_to (lent self.entry) (row_count (lent self.entry))) out.new }
+    {
+        let n = self.count();
+        for i in 0..n {
+            self.put_record(i, out);
+        }
+    }
 }

@@ -1,9 +1,8 @@
--- `read_all`: what was read fits the buffer. Its measure: the reads left.
-use Rattle.std.proofs.Common.{◌≡◌, ◌≤◌, length}
+-- `read_all`: what was read fits the buffer, and is what the reader gave.
+use Rattle.std.proofs.Common.{◌≡◌, ◌≤◌, length, take}
+use Rattle.std.specs.Io.KnownBytes.{Consumes}
 use Rattle.input.proofs.read_all.Given as goal
 
-abbrev pub invariant-loop-reads : goal.invariant-loop-reads
-invariant-loop-reads g l = (l.got ≤ length l.buffer) × (length l.buffer ≡ length l.initial.buffer)
-
-abbrev pub decreases-loop-reads : goal.decreases-loop-reads
-decreases-loop-reads g l = l.reads
+abbrev pub invariant-loop : goal.invariant-loop
+invariant-loop g l = (l.got ≤ length l.buffer) × (length l.buffer ≡ length l.initial.buffer)
+    × Consumes (g.R.Read.remaining l.initial.reader) (g.R.Read.remaining l.reader) (take l.got l.buffer)

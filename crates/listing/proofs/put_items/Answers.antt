@@ -1,63 +1,30 @@
 -- `listing::put_items` meets its contract: a line for each record.
-use mathlib.Core.Path.{◌≡◌, refl, sym}
-use native.Mathlib.Omega.{arith}
-use lib.ListN.{length}
-use Rattle.trace.proofs.Records.{Body, body_at, body-size}
+use mathlib.Core.Path.{◌≡◌, sym}
+use Rattle.std.proofs.Common.{rules, None}
+use Rattle.trace.proofs.Records.{head-body}
 use Rattle.listing.proofs.Walk.{walk-starts, walk-room, walk-goes, walk-whole, walk_ends}
 use Rattle.listing.proofs.put_items.Goals as goal
 
-pub loop-kind-init : goal.loop-kind-init
-loop-kind-init c = (refl, walk-starts _ _ c.requires.accepted)
+pub loop-record-init : goal.loop-record-init
+loop-record-init c = walk-starts _ _ c.requires.accepted
 
-pub head_due-found-requires : goal.head_due-found-requires
-head_due-found-requires c = c.loop-kind.invariant.1.inside
+pub put_item-requires-clause-room : goal.put_item-requires-clause-room
+put_item-requires-clause-room c =
+    let here = head-body (rw (c.new.ensures.0, c.new.ensures.1, c.in-Ok-Some.is, c.in-Ok-Some.field-0-is) at c.head.ensures) in
+    walk-room c.requires.accepted c.loop-record.invariant here c.requires.room
 
-pub returns-in-End : goal.returns-in-End
-returns-in-End c =
-    let head = c.head_due-found.ensures in
-    walk_ends c.requires.accepted c.loop-kind.invariant.1 (sym (rw c.in-End.is at head.says)) c.requires.listing_room_in_bounds
+pub loop-record-preserved : goal.loop-record-preserved
+loop-record-preserved c =
+    let here = head-body (rw (c.new.ensures.0, c.new.ensures.1, c.in-Ok-Some.is, c.in-Ok-Some.field-0-is) at c.head.ensures) in
+    walk-goes c.requires.accepted c.loop-record.invariant here c.put_item.ensures
 
-pub returns-in-Bad : goal.returns-in-Bad
-returns-in-Bad c =
-    let head = c.head_due-found.ensures in
-    walk-whole c.requires.accepted c.loop-kind.invariant.1 (sym (rw c.in-Bad.is at head.says))
+pub returns-in_default : goal.returns-in_default
+returns-in_default c =
+    let none : c.in_default.field-0 ≡ None = search rules in
+    let read = rw (c.new.ensures.0, c.new.ensures.1, c.in_default.is, none) at c.head.ensures in
+    walk_ends c.requires.accepted c.loop-record.invariant (sym read.says)
 
-pub body-b-requires : goal.body-b-requires
-body-b-requires c = (rw c.in-Record.is at c.head_due-found.ensures.fits).inside
-
-pub put_item-next-requires : goal.put_item-next-requires
-put_item-next-requires c =
-    let at_body : Body c.args.trace.now c.loop-kind.at c.in-Record.kind c.in-Record.field-1 c.in-Record.size c.body-b.result.now = let head = c.head_due-found.ensures in
-    body_at (rw c.in-Record.is at head.says) (rw c.in-Record.is at head.fits) c.body-b.ensures in
-    let body = at_body in
-    let inv = c.loop-kind.invariant in
-    record { b_value = body.bodied.right; b_in_bounds = walk-room c.requires.accepted inv.1 body (omega (arith, inv.0, c.requires.listing_room_in_bounds)) }
-
-pub overflow_add-at : goal.overflow_add-at
-overflow_add-at c =
-    let at_body : Body c.args.trace.now c.loop-kind.at c.in-Record.kind c.in-Record.field-1 c.in-Record.size c.body-b.result.now = let head = c.head_due-found.ensures in
-    body_at (rw c.in-Record.is at head.says) (rw c.in-Record.is at head.fits) c.body-b.ensures in
-    let long : length c.body-b.result.now ≡ c.in-Record.size = body-size _ _ _ c.body-b.ensures (rw c.in-Record.is at c.head_due-found.ensures.fits).inside in
-    omega (arith, at_body.inside, long, c.requires.accepted.short)
-
-pub overflow_add-at-in-Record : goal.overflow_add-at-in-Record
-overflow_add-at-in-Record c =
-    let at_body : Body c.args.trace.now c.loop-kind.at c.in-Record.kind c.in-Record.field-1 c.in-Record.size c.body-b.result.now = let head = c.head_due-found.ensures in
-    body_at (rw c.in-Record.is at head.says) (rw c.in-Record.is at head.fits) c.body-b.ensures in
-    let long : length c.body-b.result.now ≡ c.in-Record.size = body-size _ _ _ c.body-b.ensures (rw c.in-Record.is at c.head_due-found.ensures.fits).inside in
-    omega (arith, at_body.inside, long, c.requires.accepted.short)
-
-pub loop-kind-smaller : goal.loop-kind-smaller
-loop-kind-smaller c =
-    let at_body : Body c.args.trace.now c.loop-kind.at c.in-Record.kind c.in-Record.field-1 c.in-Record.size c.body-b.result.now = let head = c.head_due-found.ensures in
-    body_at (rw c.in-Record.is at head.says) (rw c.in-Record.is at head.fits) c.body-b.ensures in
-    let long : length c.body-b.result.now ≡ c.in-Record.size = body-size _ _ _ c.body-b.ensures (rw c.in-Record.is at c.head_due-found.ensures.fits).inside in omega (arith, at_body.inside, long)
-
-pub loop-kind-preserved : goal.loop-kind-preserved
-loop-kind-preserved c =
-    let at_body : Body c.args.trace.now c.loop-kind.at c.in-Record.kind c.in-Record.field-1 c.in-Record.size c.body-b.result.now = let head = c.head_due-found.ensures in
-    body_at (rw c.in-Record.is at head.says) (rw c.in-Record.is at head.fits) c.body-b.ensures in
-    let long : length c.body-b.result.now ≡ c.in-Record.size = body-size _ _ _ c.body-b.ensures (rw c.in-Record.is at c.head_due-found.ensures.fits).inside in
-    let written = c.put_item-next in
-    let inv = c.loop-kind.invariant in
-    (omega (arith, inv.0), walk-goes c.requires.accepted inv.1 at_body long written.ensures.0 written.ensures.1)
+pub returns-in_default-2 : goal.returns-in_default-2
+returns-in_default-2 c =
+    let read = rw (c.new.ensures.0, c.new.ensures.1, c.in_default.is) at c.head.ensures in
+    walk-whole c.requires.accepted c.loop-record.invariant (sym read.says)

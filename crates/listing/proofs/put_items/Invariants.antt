@@ -1,12 +1,11 @@
 -- `listing::put_items` meets its contract: a line for each record.
 use Prim.Native.Nat.{◌-◌}
-use mathlib.Core.Path.{◌≡◌}
 use lib.ListN.{length}
 use Rattle.listing.specs.Inner.Walk.{ListedTo}
 use Rattle.listing.proofs.put_items.Given as goal
 
-abbrev pub invariant-loop-kind : goal.invariant-loop-kind
-invariant-loop-kind l = (length l.out ≡ length l.initial.out) × ListedTo l.trace l.initial.out l.at l.next l.out
+abbrev pub invariant-loop-record : goal.invariant-loop-record
+invariant-loop-record l = ListedTo l.trace l.fn.out l.at l.out
 
-abbrev pub decreases-loop-kind : goal.decreases-loop-kind
-decreases-loop-kind l = length l.trace - l.at
+abbrev pub decreases-loop-record : goal.decreases-loop-record
+decreases-loop-record l = length l.trace - l.at

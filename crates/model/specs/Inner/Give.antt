@@ -14,8 +14,7 @@ abbrev pub counts_in : View → Counts
 counts_in v = record { ordered = length v.order; accesses = v.accesses; merges = v.merges; rounds = v.rounds }
 
 -- a machine whose results fit the lent memory
-pub record MayGive (m memory : List ℕ) (before : Lent) : Type 0 where
-  pub memory-sized : length memory ≡ 256
+pub record MayGive (m : List ℕ) (before : Lent) : Type 0 where
   pub requests-few : (view m).fixed.count ≤ 256
   pub order-few : length (view m).order ≤ (view m).fixed.count
   pub room : room_for (view m).fixed.count before ≡ true

@@ -1,5 +1,5 @@
 -- A node in hand, and what an arrival at it promises: document 01, "Wiring and queues".
-use Rattle.std.specs.Prelude.{ℕ, suc, ◌+◌, ◌-◌, ◌≡◌, ◌≢◌, List, ◌∷◌, ◌++◌, map, eqb, length}
+use Rattle.std.specs.Prelude.{ℕ, suc, ◌+◌, ◌-◌, ◌≡◌, ◌≢◌, List, ◌∷◌, ◌++◌, map, eqb, length, Option, Some, None}
 use Rattle.lists.specs.Table.{down_from}
 use Rattle.lists.specs.Search.{Found, absent, found, last_of}
 use Rattle.lists.specs.Count.{count, Distinct}
@@ -7,8 +7,6 @@ use Rattle.lists.specs.Inner.Pair.{Pair}
 use Rattle.words.specs.Inner.Digits.{byte_in}
 use Rattle.queue.specs.Inner.Queue.{tags_of, pairs_of, HeldTags, HeldPairs}
 use Rattle.queue.specs.declared.Tags.{Tags}
-use Rattle.queue.specs.declared.Place.{Place}
-use Rattle.queue.specs.declared.Place.TheVariants.{At, Nowhere}
 use Rattle.view.specs.Inner.View.{View, carrying}
 use Rattle.store.specs.Inner.Layout.{size}
 use Rattle.store.specs.Inner.Memory.{view}
@@ -43,9 +41,9 @@ unfoldable pub youngest_tag : (ℕ → ℕ) → ℕ → List ℕ → Found ℕ
 youngest_tag address a tags = last_of (λ u. eqb (address u) a) tags
 
 -- the tag with i younger ones, with those before it and those behind it
-abbrev pub found_in : Tags → Place → Found ℕ
-found_in l Nowhere = absent
-found_in l (At i) = found (down_from (l.len - suc i) (λ j. byte_in l.items (suc i + j))) (byte_in l.items i) (down_from i (byte_in l.items))
+abbrev pub found_in : Tags → Option ℕ → Found ℕ
+found_in l None = absent
+found_in l (Some i) = found (down_from (l.len - suc i) (λ j. byte_in l.items (suc i + j))) (byte_in l.items i) (down_from i (byte_in l.items))
 
 -- ---- the arrival
 -- "Otherwise append if the queue has room. Otherwise the step changes nothing."

@@ -1,13 +1,11 @@
 -- A queue of tags and a wait buffer by value: what they hold, and where something is found in them.
-use Rattle.std.specs.Prelude.{ℕ, suc, ◌≤◌, List, get_or, take, drop}
+use Rattle.std.specs.Prelude.{ℕ, suc, ◌≤◌, List, get_or, take, drop, Option, Some, None}
 use Rattle.lists.specs.Table.{list_below, down_from}
 use Rattle.lists.specs.Search.{Found, absent, found}
 use Rattle.lists.specs.Inner.Pair.{Pair}
 use Rattle.words.specs.Inner.Digits.{byte_in}
 use Rattle.queue.specs.declared.Tags.{Tags}
 use Rattle.queue.specs.declared.Pairs.{Pairs}
-use Rattle.queue.specs.declared.Place.{Place}
-use Rattle.queue.specs.declared.Place.TheVariants.{At, Nowhere}
 
 -- a word's tags, the youngest in the lowest byte, written oldest first
 abbrev pub tags_in : ℕ → ℕ → List ℕ
@@ -39,6 +37,6 @@ abbrev pub no_pair : Pair
 no_pair = record { first = 0; second = 0 }
 
 -- the record at a place, with those before it and those behind it
-abbrev pub found_at : List Pair → Place → Found Pair
-found_at l Nowhere = absent
-found_at l (At i) = found (take i l) (get_or l i no_pair) (drop (suc i) l)
+abbrev pub found_at : List Pair → Option ℕ → Found Pair
+found_at l None = absent
+found_at l (Some i) = found (take i l) (get_or l i no_pair) (drop (suc i) l)

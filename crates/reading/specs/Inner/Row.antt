@@ -1,9 +1,22 @@
 -- What the storing of an item in a row asks and promises.
-use Rattle.std.specs.Prelude.{ℕ, ◌+◌, ◌*◌, ◌<◌, ◌≡◌, ◌≢◌, true, List, length, get_or, take, set}
+use Rattle.std.specs.Prelude.{ℕ, ◌+◌, ◌*◌, ◌<◌, ◌≡◌, ◌≢◌, List, length, get_or, take, set}
 use Rattle.trace.specs.Item.{Item}
-use Rattle.trace.specs.Table.{is_row, kind_row}
+use Rattle.trace.specs.Table.{kind_row}
 use Rattle.trace.specs.Inner.Fits.{FieldsFit}
+use Rattle.trace.specs.Inner.Kinds.{number_of_kind}
+use Rattle.trace.specs.declared.kind.RecordKind.{RecordKind}
 use Rattle.writing.specs.Rows.{Rows, rows, row_count, known, entry}
+use Rattle.reading.specs.declared.row.LentRows.{LentRows}
+
+-- ---- the rows that are lent
+abbrev pub lent : LentRows → Rows
+lent l = rows l.heads.now l.bytes.now l.words.now
+
+-- in the same slices
+pub record SameLent (before after : LentRows) : Type 0 where
+  pub heads-lent : after.heads.ghost_name ≡ before.heads.ghost_name
+  pub bytes-lent : after.bytes.ghost_name ≡ before.bytes.ghost_name
+  pub words-lent : after.words.ghost_name ≡ before.words.ghost_name
 
 -- the numbers of a kind's fields: the first of those that were read, and the item with them
 abbrev pub fields_of : ℕ → List ℕ → List ℕ
@@ -20,13 +33,11 @@ abbrev pub two_set : List ℕ → ℕ → List ℕ → List ℕ
 two_set l at values = set (set l at (get_or values 3 0)) (at + 1) (get_or values 4 0)
 
 -- ---- the row
--- a kind that the table has, and numbers that fit its fields
-pub record MayKeep (kind : ℕ) (values : List ℕ) : Type 0 where
-  pub is-row : is_row (kind_row kind) ≡ true
-  pub fit : FieldsFit (kind_row kind).widths (fields_of kind values)
-  pub five : length values ≡ 5
+-- numbers that fit the fields of a kind
+pub record MayKeep (kind : RecordKind) (values : List ℕ) : Type 0 where
+  pub fit : FieldsFit (kind_row (number_of_kind kind)).widths (fields_of (number_of_kind kind) values)
 
-pub record MayPut (kind : ℕ) (values : List ℕ) (i : ℕ) (r : Rows) : Type 0 where
+pub record MayPut (kind : RecordKind) (values : List ℕ) (i : ℕ) (r : Rows) : Type 0 where
   pub inside : i < row_count r
   pub may : MayKeep kind values
 

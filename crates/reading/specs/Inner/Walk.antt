@@ -1,13 +1,13 @@
 -- What is known of a text while its lines are read, and what the reading promises.
-use Rattle.std.specs.Prelude.{ℕ, suc, ◌*◌, ◌≤◌, min, ◌≡◌, List, [], ◌∷◌, ◌++◌, map, length, get_or, take, drop}
+use Rattle.std.specs.Prelude.{ℕ, suc, ◌*◌, ◌≤◌, ◌<◌, min, ◌≡◌, List, [], ◌∷◌, ◌++◌, map, length, slice_get, take, drop, Result, Ok, Err}
 use Rattle.lists.specs.Table.{list_below}
+use Rattle.lines.specs.Said.{leading}
 use Rattle.trace.specs.Item.{Item}
 use Rattle.writing.specs.Rows.{Rows, row_count, known, entry}
 use Rattle.reading.specs.Text as X
-use Rattle.reading.specs.Text.{lines_of, items, wrong_line, push, read_from, text_says, item_lines_from, item_lines}
+use Rattle.reading.specs.Text.{in_line, lines_of, items, wrong_line, push, read_from, text_says, item_lines_from, item_lines}
 use Rattle.reading.specs.Inner.Row.{item_of, SameSizes}
-use Rattle.reading.specs.declared.Answer.{Answer}
-use Rattle.reading.specs.declared.Answer.TheVariants.{Items, Wrong}
+use Rattle.reading.specs.declared.WrongLine.{WrongLine}
 
 -- ---- the text
 -- items in front of what the rest says
@@ -15,17 +15,24 @@ unfoldable pub in_front : List Item → X.Read → X.Read
 in_front [] rest = rest
 in_front (x ∷ xs) rest = push x (in_front xs rest)
 
--- the lines from an offset on, behind so many others
-abbrev pub rest_says : List ℕ → ℕ → ℕ → X.Read
-rest_says text passed at = read_from (suc passed) (lines_of (drop at text))
+-- the first line of a text that has one, and the rest behind its newline
+pub record LineSplit (text line rest : List ℕ) : Type 0 where
+  pub some : 0 < length text
+  pub line_is : line ≡ take (leading in_line text) text
+  pub rest-is : rest ≡ drop (suc (leading in_line text)) text
 
-abbrev pub rest_items : List ℕ → ℕ → ℕ → List ℕ
-rest_items text passed at = item_lines_from (suc passed) (lines_of (drop at text))
+-- the next line of a rest behind so many lines, and its number
+pub record LineNext (passed : ℕ) (rest : List ℕ) (number : ℕ) (line : List ℕ) (passed' : ℕ) (rest' : List ℕ) : Type 0 where
+  pub number_is : number ≡ suc passed
+  pub passed_is : passed' ≡ suc passed
+  pub split : LineSplit rest line rest'
 
--- a line has a byte at least, if only its newline
-pub record Stands (text : List ℕ) (passed at : ℕ) : Type 0 where
-  pub inside : at ≤ length text
-  pub few : passed ≤ at
+-- the lines of a rest, behind so many others
+abbrev pub rest_says : ℕ → List ℕ → X.Read
+rest_says passed rest = read_from (suc passed) (lines_of rest)
+
+abbrev pub rest_items : ℕ → List ℕ → List ℕ
+rest_items passed rest = item_lines_from (suc passed) (lines_of rest)
 
 -- ---- the rows
 -- the first n rows say the items, as far as there are rows
@@ -39,16 +46,14 @@ pub record Kept (kind : ℕ) (values : List ℕ) (n : ℕ) (r : Rows) (n' : ℕ)
   pub one_more : (before : Rows) (xs : List Item) → RowsHold before xs n r → RowsHold before (xs ++ (item_of kind values ∷ [])) n' r'
 
 -- ---- both
-pub record Walked (text : List ℕ) (before : Rows) (passed at n : ℕ) (r : Rows) : Type 0 where
-  pub stands : Stands text passed at
+pub record Walked (text : List ℕ) (before : Rows) (passed : ℕ) (rest : List ℕ) (n : ℕ) (r : Rows) : Type 0 where
   pub xs : List Item
-  pub so_far : text_says text ≡ in_front xs (rest_says text passed at)
+  pub so_far : text_says text ≡ in_front xs (rest_says passed rest)
   pub kept : RowsHold before xs n r
 
 -- the number of an item's line is among those that are left
-pub record Sought (text : List ℕ) (row passed at left : ℕ) : Type 0 where
-  pub stands : Stands text passed at
-  pub so_far : get_or (item_lines text) row 0 ≡ get_or (rest_items text passed at) left 0
+pub record Sought (text : List ℕ) (row passed : ℕ) (rest : List ℕ) (left : ℕ) : Type 0 where
+  pub so_far : slice_get (item_lines text) row ≡ slice_get (rest_items passed rest) left
 
 -- ---- what `read` promises
 -- the first n rows say the items of the text, as far as there are rows
@@ -61,10 +66,10 @@ pub record ItemsRead (text : List ℕ) (before : Rows) (n : ℕ) (r : Rows) : Ty
   pub bytes-room : 10 * n ≤ length r.bytes
   pub words-room : 8 * n ≤ length r.words
 
-abbrev pub Told : List ℕ → Rows → Answer → Rows → Type 0
-Told text before (Items n) r = ItemsRead text before n r
-Told text before (Wrong line reason place) r = text_says text ≡ wrong_line line reason place
+abbrev pub Told : List ℕ → Rows → Result ℕ WrongLine → Rows → Type 0
+Told text before (Ok n) r = ItemsRead text before n r
+Told text before (Err w) r = text_says text ≡ wrong_line w.number w.wrong.reason w.wrong.place
 
-pub record ReadRows (text : List ℕ) (before : Rows) (answer : Answer) (r : Rows) : Type 0 where
+pub record ReadRows (text : List ℕ) (before : Rows) (answer : Result ℕ WrongLine) (r : Rows) : Type 0 where
   pub told : Told text before answer r
   pub sizes : SameSizes before r

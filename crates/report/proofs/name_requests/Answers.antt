@@ -1,20 +1,12 @@
 -- `report::name_requests` meets its contract: after n turns the addresses of the first n requests are marked.
 use Prim.Native.Nat.{◌<◌}
-use mathlib.Core.Path.{◌≡◌}
 use native.Mathlib.Omega.{arith}
 use borrow.Author.Rules.{rules}
 use Rattle.report.proofs.Names.{marked-none, marked_more}
 use Rattle.report.proofs.name_requests.Goals as goal
 
 pub loop-tag-init : goal.loop-tag-init
-loop-tag-init c = (omega arith, marked-none c.requires.1)
-
-pub overflow_cast-tag : goal.overflow_cast-tag
-overflow_cast-tag c = omega (arith, c.loop-tag-test.true, c.requires.0)
-
-pub bounds-named-address : goal.bounds-named-address
-bounds-named-address c =
-    let low : c.address_of-address.result < 256 = search rules in low
+loop-tag-init c = (omega arith, marked-none c.told-named)
 
 pub loop-tag-preserved : goal.loop-tag-preserved
 loop-tag-preserved c =
@@ -22,6 +14,3 @@ loop-tag-preserved c =
     let turn = c.loop-tag in
     let small = rw c.address_of-address.ensures at low in
     (omega arith, rw c.address_of-address.ensures (marked_more turn.tag small turn.invariant.1))
-
-pub returns : goal.returns
-returns c = let e : c.loop-tag.tag ≡ c.args.n = omega arith in rw (← e) c.loop-tag.invariant.1

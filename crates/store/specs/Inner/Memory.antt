@@ -117,8 +117,3 @@ pub record RowOf {A : Type 0} (queues : ℕ → List A) (row : ℕ) : Type 0 whe
 pub record Same (f g : ℕ → Bool) (r : Bool) : Type 0 where
   pub same : r ≡ true → (t : ℕ) → f t ≡ g t
   pub differ : r ≡ false → ¬ ((t : ℕ) → f t ≡ g t)
-
--- whether two words have the same marks
-pub record SameMarks (a b : ℕ) (r : Bool) : Type 0 where
-  pub same : r ≡ true → a ≡ b
-  pub differ : r ≡ false → ¬ ((i : ℕ) → i < 64 → bit_in a i ≡ bit_in b i)

@@ -1,5 +1,5 @@
 -- The events and drains that are left of a trace at an offset, and what stands there.
-use Rattle.std.specs.Prelude.{ℕ, ◌+◌, ◌≤◌, List, [], ◌∷◌, ◌++◌, ◌≡◌, length, take, drop}
+use Rattle.std.specs.Prelude.{ℕ, ◌+◌, ◌≤◌, List, [], ◌∷◌, ◌++◌, ◌≡◌, length, take, drop, Option, Some, None}
 use Rattle.lists.specs.Search.{All}
 use Rattle.event.specs.Event.{Act}
 use Rattle.trace.specs.Item.{act, Items}
@@ -7,8 +7,8 @@ use Rattle.trace.specs.Table.{record_size}
 use Rattle.trace.specs.Write.{record_of}
 use Rattle.trace.specs.Inner.Fits.{FitsBytes}
 use Rattle.trace.specs.Contents.{acts_of, acts_offset}
-use Rattle.trace.specs.declared.acts.Due.{Due}
-use Rattle.trace.specs.declared.acts.Due.TheVariants.{End, Event, Drain}
+use Rattle.trace.specs.declared.acts.Act.{Act as ReadAct}
+use Rattle.trace.specs.declared.acts.Act.TheVariants.{Event, Drain}
 
 -- how many bytes an act's record has
 abbrev pub act_size : Act → ℕ
@@ -39,13 +39,13 @@ pub record Left (s : List ℕ) (at : ℕ) (left : List Act) : Type 0 where
   pub fit : All ActFits left
 
 -- what is read of an act, and what stands where the next one is due
-abbrev pub due_of : Act → Due
+abbrev pub due_of : Act → ReadAct
 due_of (Act.event e) = Event e.what e.level e.position
 due_of (Act.drain rounds) = Drain rounds
 
-abbrev pub due : List Act → Due
-due [] = End
-due (a ∷ rest) = due_of a
+abbrev pub due : List Act → Option ReadAct
+due [] = None
+due (a ∷ rest) = Some (due_of a)
 
 -- there are such acts: what `act_at` asks
 pub record ActsLeft (s : List ℕ) (at : ℕ) : Type 0 where
@@ -53,5 +53,5 @@ pub record ActsLeft (s : List ℕ) (at : ℕ) : Type 0 where
   pub are-left : Left s at left
 
 -- what was read is the next of them: what `act_at` promises
-pub record ActRead (s : List ℕ) (at : ℕ) (r : Due) : Type 0 where
+pub record ActRead (s : List ℕ) (at : ℕ) (r : Option ReadAct) : Type 0 where
   pub is : (left : List Act) → Left s at left → r ≡ due left

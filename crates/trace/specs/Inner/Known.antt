@@ -1,21 +1,18 @@
 -- What the check knows of the records before an offset, and the promises of the private functions over it. Nothing here has to be
 -- believed: no contract of a public function names it.
-use Rattle.std.specs.Prelude.{ℕ, ◌+◌, ◌≤◌, ◌<◌, ◌≡◌, Bool, true, List, length, get_or, drop, ltb}
+use Rattle.std.specs.Prelude.{ℕ, ◌+◌, ◌≤◌, ◌<◌, ◌≡◌, Bool, true, List, length, get_or, drop, ltb, Result, Ok, Err}
 use Rattle.lists.specs.Choice.{choose}
 use Rattle.event.specs.Event.{Event}
 use Rattle.trace.specs.Bytes.{number}
 use Rattle.trace.specs.Item.{Shape, Word, Request, Item, Items, after}
-use Rattle.trace.specs.Table.{body_size, is_row, kind_row, body_row, row_of, section, record_size, size}
+use Rattle.trace.specs.Table.{body_size, is_row, body_row, row_of, section, record_size, size}
 use Rattle.trace.specs.Records.{records}
 use Rattle.trace.specs.Contents.{contents, shape_of, words_given, requests_of, given, last_section, acts_offset}
 use Rattle.trace.specs.Refusals.{own_fault, fault}
 use Rattle.trace.specs.Check.{check_records}
 use Rattle.trace.specs.Answers.{number_of}
-use Rattle.trace.specs.declared.rules.Finding.{Finding}
-use Rattle.trace.specs.declared.rules.Finding.TheVariants.{Clean, Faulty}
+use Rattle.trace.specs.declared.Fault.{Fault}
 use Rattle.trace.specs.declared.progress.Progress.{Progress}
-use Rattle.trace.specs.declared.record.Listed.{Listed}
-use Rattle.trace.specs.declared.record.Listed.TheVariants.{NoKind, NoLength, In}
 
 -- the table's column "body" by its bytes, as the code reads them
 abbrev pub shape_in : List ℕ → Shape
@@ -30,40 +27,36 @@ request_in b = record { engine = get_or b 0 0; operation = get_or b 1 0; address
 abbrev pub event_in : List ℕ → Event
 event_in b = record { what = get_or b 0 0; level = get_or b 1 0; position = get_or b 2 0 }
 
--- what the table says of a kind and a body's length
-unfoldable pub listing : ℕ → ℕ → Listed
-listing kind len = choose (is_row (kind_row kind)) (choose (is_row (body_row kind len)) (In (body_row kind len).section) NoLength) NoKind
-
 -- a body of a kind and length that the table has
-pub record Bodied (kind section : ℕ) (b : List ℕ) : Type 0 where
+pub record Bodied (kind : ℕ) (b : List ℕ) : Type 0 where
   pub right : is_row (body_row kind (length b)) ≡ true
-  pub section-is : section ≡ (body_row kind (length b)).section
 
-abbrev pub finding_number : Finding → ℕ
-finding_number Clean = 0
-finding_number (Faulty f) = number_of f
+-- the number of what is found, 0 where nothing is
+abbrev pub finding_number : Result (Unit {0}) Fault → ℕ
+finding_number (Ok _) = 0
+finding_number (Err f) = number_of f
 
 -- the progress and the marks say what the items before say
 pub record Known (before : Items) (p : Progress) (marks : List ℕ) : Type 0 where
   pub at-is : p.at ≡ size before
   pub section-is : p.section ≡ last_section before
-  pub k-is : p.k ≡ (shape_of before).k
-  pub k-low : p.k ≤ 4
-  pub q-is : p.q ≡ (shape_of before).q
-  pub w-is : p.w ≡ (shape_of before).w
-  pub requests-is : p.requests ≡ length (requests_of before)
-  pub acts-at-is : p.acts_at ≡ acts_offset before
+  pub k-is : p.facts.k ≡ (shape_of before).k
+  pub k-low : p.facts.k ≤ 4
+  pub q-is : p.facts.q ≡ (shape_of before).q
+  pub w-is : p.facts.w ≡ (shape_of before).w
+  pub requests-is : p.facts.requests ≡ length (requests_of before)
+  pub acts-at-is : p.facts.acts_at ≡ acts_offset before
   pub marks-are : (a : ℕ) → a < 256 → get_or marks a 0 ≡ choose (given (words_given before) a) 1 0
 
 -- what is found is what the definition finds, whatever items are known to stand before
-pub record OwnFault (p : Progress) (marks : List ℕ) (x : Item) (r : Finding) : Type 0 where
+pub record OwnFault (p : Progress) (marks : List ℕ) (x : Item) (r : Result (Unit {0}) Fault) : Type 0 where
   pub is : (before : Items) → Known before p marks → finding_number r ≡ own_fault (contents before) x
 
-pub record RecordFault (p : Progress) (marks : List ℕ) (x : Item) (r : Finding) : Type 0 where
+pub record RecordFault (p : Progress) (marks : List ℕ) (x : Item) (r : Result (Unit {0}) Fault) : Type 0 where
   pub is : (before : Items) → Known before p marks → finding_number r ≡ fault before x
 
 abbrev pub begun : Progress
-begun = record { at = 0; section = 0; k = 0; q = 0; w = 0; requests = 0; acts_at = 0 }
+begun = record { at = 0; section = 0; facts = record { k = 0; q = 0; w = 0; requests = 0; acts_at = 0 } }
 
 -- past a record of a section, whose body has a size; what stands before the first act grows with the first three sections
 abbrev pub moved : Progress → ℕ → ℕ → Progress
@@ -71,11 +64,7 @@ moved p section size =
     record {
       at = p.at + 4 + size;
       section = section;
-      k = p.k;
-      q = p.q;
-      w = p.w;
-      requests = p.requests;
-      acts_at = choose (ltb section 4) (p.acts_at + 4 + size) p.acts_at;
+      facts = record p.facts { acts_at = choose (ltb section 4) (p.facts.acts_at + 4 + size) p.facts.acts_at };
     }
 
 -- past the record of an item
@@ -84,26 +73,24 @@ moved_past p x = moved p (section x) (body_size (row_of x))
 
 -- with a shape
 abbrev pub shaped : Progress → Shape → Progress
-shaped p s =
-    record { at = p.at; section = p.section; k = s.k; q = s.q; w = s.w; requests = p.requests; acts_at = p.acts_at }
+shaped p s = record p { facts = record p.facts { k = s.k; q = s.q; w = s.w } }
 
 -- with one request more
 abbrev pub asked : Progress → Progress
-asked p =
-    record { at = p.at; section = p.section; k = p.k; q = p.q; w = p.w; requests = p.requests + 1; acts_at = p.acts_at }
+asked p = record p { facts = record p.facts { requests = p.facts.requests + 1 } }
 
 -- ---- past a record that is not refused
 -- the sums fit, and a mark stands for each address
 pub record Room (p : Progress) (marks : List ℕ) : Type 0 where
-  pub acts-at-low : p.acts_at ≤ p.at
-  pub requests-low : p.requests ≤ 256
+  pub acts-at-low : p.facts.acts_at ≤ p.at
+  pub requests-low : p.facts.requests ≤ 256
   pub marks-size : length marks ≡ 256
 
 -- what the step asks
-pub record MayNote (kind section : ℕ) (b : List ℕ) (p : Progress) (marks : List ℕ) : Type 0 where
-  pub bodied : Bodied kind section b
+pub record MayNote (kind : ℕ) (b : List ℕ) (p : Progress) (marks : List ℕ) : Type 0 where
+  pub bodied : Bodied kind b
   pub at_low : p.at ≤ 65536
-  pub few : kind ≡ 3 → p.requests < 256
+  pub few : kind ≡ 3 → p.facts.requests < 256
   pub room : Room p marks
 
 -- and what is known behind the item x

@@ -1,38 +1,38 @@
 -- What a head and an answer of the code say of a trace.
-use Rattle.std.specs.Prelude.{ℕ, ◌+◌, ◌≤◌, List, ◌≡◌, true, length, take, drop}
+use Rattle.std.specs.Prelude.{ℕ, ◌+◌, ◌≤◌, List, ◌≡◌, length, drop, Option, Some, None, Result, Ok, Err}
 use Rattle.trace.specs.Item.{Items}
-use Rattle.trace.specs.Table.{is_row, body_row, size}
+use Rattle.trace.specs.Table.{size}
 use Rattle.trace.specs.Records.{Split, nothing, faulty, whole, split}
 use Rattle.trace.specs.Contents.{shape_of, requests_of, acts_offset}
 use Rattle.trace.specs.Check.{Verdict, refused, accepted}
-use Rattle.trace.specs.declared.record.Head.{Head}
-use Rattle.trace.specs.declared.record.Head.TheVariants.{End, Bad, Record}
+use Rattle.trace.specs.declared.Fault.{Fault}
+use Rattle.trace.specs.declared.record.Record.{Record}
 use Rattle.trace.specs.declared.Facts.{Facts}
-use Rattle.trace.specs.declared.Answer.{Answer}
-use Rattle.trace.specs.declared.Answer.TheVariants.{Refused, Accepted}
+use Rattle.trace.specs.declared.Refusal.{Refusal}
 use Rattle.trace.specs.Answers.{number_of}
+use Rattle.trace.specs.Inner.Kinds.{number_of_kind}
+use Rattle.trace.specs.Inner.Known.{Bodied}
 
--- what a head says of the trace s at offset `at`
-abbrev pub head_says : List ℕ → ℕ → Head → Split
-head_says s at End = nothing
-head_says s at (Bad f) = faulty (number_of f)
-head_says s at (Record kind section size) = whole kind (take size (drop (at + 4) s))
+-- what a head says of what stands there
+abbrev pub head_says : Result (Option Record) Fault → Split
+head_says (Ok None) = nothing
+head_says (Err f) = faulty (number_of f)
+head_says (Ok (Some r)) = whole (number_of_kind r.kind) r.body.now
 
--- the body that a head announces lies in a trace of n bytes, and the table has a row of its kind and size, with that section
-pub record RecordFits (n at kind section size : ℕ) : Type 0 where
-  pub inside : at + 4 + size ≤ n
-  pub right : is_row (body_row kind size) ≡ true
-  pub section-is : section ≡ (body_row kind size).section
+-- the record that a head announces lies in a trace of n bytes, and the table has a row of its kind and its body's length
+pub record RecordFits (n at : ℕ) (r : Record) : Type 0 where
+  pub inside : at + 4 + length r.body.now ≤ n
+  pub bodied : Bodied (number_of_kind r.kind) r.body.now
 
 -- of a head that announces one
-abbrev pub HeadFits : ℕ → ℕ → Head → Type 0
-HeadFits n at End = Unit {0}
-HeadFits n at (Bad f) = Unit {0}
-HeadFits n at (Record kind section size) = RecordFits n at kind section size
+abbrev pub HeadFits : ℕ → ℕ → Result (Option Record) Fault → Type 0
+HeadFits n at (Ok None) = Unit {0}
+HeadFits n at (Err f) = Unit {0}
+HeadFits n at (Ok (Some r)) = RecordFits n at r
 
 -- the head that is read of the trace s at offset `at`
-pub record HeadRead (s : List ℕ) (at : ℕ) (r : Head) : Type 0 where
-  pub says : head_says s at r ≡ split (drop at s)
+pub record HeadRead (s : List ℕ) (at : ℕ) (r : Result (Option Record) Fault) : Type 0 where
+  pub says : head_says r ≡ split (drop at s)
   pub fits : HeadFits (length s) at r
 
 -- what a trace is told: a number and an offset, or that it is accepted, and what it says of itself
@@ -50,6 +50,6 @@ answered (refused n before) = refusal n (size before)
 answered (accepted xs) = acceptance (facts_of xs)
 
 -- this paper's number and values of the code's answer
-abbrev pub tells : Answer → TraceTold
-tells (Refused f at) = refusal (number_of f) at
-tells (Accepted facts) = acceptance facts
+abbrev pub tells : Result Facts Refusal → TraceTold
+tells (Err r) = refusal (number_of r.fault) r.offset
+tells (Ok facts) = acceptance facts

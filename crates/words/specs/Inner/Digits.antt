@@ -1,5 +1,5 @@
 -- Numbers of so many bits side by side in one word, the lowest first, and what is said of them.
-use Rattle.std.specs.Prelude.{◌≡◌, ℕ, suc, ◌*◌, ◌/◌, ◌%◌, ◌^◌, ◌<◌, ◌≤◌, ◌≢◌, nat_lt}
+use Rattle.std.specs.Prelude.{◌≡◌, ℕ, suc, ◌*◌, ◌/◌, ◌%◌, ◌^◌, ◌<◌, ◌≤◌, ◌≢◌, nat_lt, Option, Some, None}
 use Rattle.lists.specs.Choice.{choose}
 
 -- the number at each place: `bits` binary digits each
@@ -35,6 +35,11 @@ pub record PlaceOf (k w b r : ℕ) : Type 0 where
   pub within : r ≤ k
   pub below : (i : ℕ) → i < r → byte_in w i ≢ b
   pub found : r < k → byte_in w r ≡ b
+
+-- that place, where there is one
+abbrev pub Lowest : ℕ → ℕ → ℕ → Option ℕ → Type 0
+Lowest k w b None = PlaceOf k w b k
+Lowest k w b (Some r) = (r < k) × PlaceOf k w b r
 
 -- r is w with one byte more, below all others; the highest of eight goes
 pub record Pushed (w b r : ℕ) : Type 0 where

@@ -3,7 +3,6 @@ use Rattle.std.specs.Prelude.{ℕ, zero, suc, ◌+◌, ◌*◌, ◌≤◌, ◌<�
 use Rattle.trace.specs.Table.{Row, body_size, kind_row}
 use Rattle.trace.specs.Write.{bytes, field_bytes}
 use Rattle.writing.specs.Rows.{Rows, kind_at, cell, picked}
-use Rattle.writing.specs.declared.record.Kind.{Kind}
 
 -- the row of the table for a row's kind; its fields
 abbrev pub row_at : Rows → ℕ → Row
@@ -11,10 +10,6 @@ row_at r i = kind_row (kind_at r i)
 
 abbrev pub fields_at : Rows → ℕ → List ℕ
 fields_at r i = picked (cell r i) (λ width. zero) (row_at r i).widths
-
--- what the code knows of a kind: section 0 and no byte where there is none
-abbrev pub kind_says : ℕ → Kind
-kind_says kind = record { section = (kind_row kind).section; size = body_size (kind_row kind) }
 
 unfoldable pub body_at : Rows → ℕ → List ℕ
 body_at r i = field_bytes (row_at r i).widths (fields_at r i)

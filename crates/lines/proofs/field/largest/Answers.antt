@@ -1,16 +1,19 @@
 -- `largest` meets its contract: the arms are the widths of the table.
-use mathlib.Core.Path.{◌∙◌}
-use Rattle.lines.proofs.Rows.{word_width, request-width, drain-width, byte_width}
+use Rattle.std.proofs.Common.{arith}
+use Rattle.trace.specs.Table.{rows, first_row, kind_row}
+use Rattle.lines.specs.Inner.Told.{width_at}
+use Rattle.lines.proofs.Rows.{operand-width, drain-width, narrow-width}
 use Rattle.lines.proofs.field.largest.Goals as goal
 
-pub returns-in-2 : goal.returns-in-2
-returns-in-2 c = c.one_or_eight.ensures ∙ rw c.in-2.is (word_width _ (rw c.in-2.is at c.requires.1))
+pub returns-in-Word-eq1 : goal.returns-in-Word-eq1
+unfolding kind_row first_row rows width_at
+returns-in-Word-eq1 c = rw (c.in-Word-eq1.is-0, c.in-Word-eq1.is-1)
 
-pub returns-in-3 : goal.returns-in-3
-returns-in-3 c = c.one_or_eight-in-3.ensures ∙ rw c.in-3.is (request-width _ (rw c.in-3.is at c.requires.1))
+pub returns-in-Word-eq1-2 : goal.returns-in-Word-eq1-2
+returns-in-Word-eq1-2 c = operand-width _ _ c.in-Word-eq1.is-0 (grind arith) c.requires
 
-pub returns-in-5 : goal.returns-in-5
-returns-in-5 c = rw c.in-5.is (drain-width _ (rw c.in-5.is at c.requires.1))
+pub returns-in-Drain-default : goal.returns-in-Drain-default
+returns-in-Drain-default c = rw c.in-Drain-default.is-0 (drain-width _ (rw c.in-Drain-default.is-0 at c.requires))
 
 pub returns-in_default : goal.returns-in_default
-returns-in_default c = let r = c.in_default.in_default-own.rest in byte_width _ _ c.requires.0 r.0.0.1 r.0.1 r.1 c.requires.1
+returns-in_default c = narrow-width _ _ c.requires (grind arith) (grind arith) (grind arith) (grind arith)

@@ -1,16 +1,14 @@
 -- `kind_named` meets its contract: the names in the code are the names of the records, by computation.
-use native.Mathlib.Numerals.{add-one}
-use borrow.Author.Tests.{lt-ltb, le-ltb}
-use Rattle.lists.specs.Search.{some}
+use Rattle.std.proofs.Common.{◌∙◌}
 use Rattle.digits.specs.Numeral.{bytes_of}
-use Rattle.lines.specs.Said.{leading, is_space, fields_up_to, fields}
-use Rattle.lines.proofs.Places.{kind-is}
+use Rattle.lines.proofs.Places.{record_names, position-named}
+use Rattle.lines.proofs.Lines.{name_nowhere, name-found}
 use Rattle.lines.proofs.names.kind_named.Goals as goal
 
-pub returns-then-place-lt5 : goal.returns-then-place-lt5
-unfolding some bytes_of leading is_space fields_up_to fields
-returns-then-place-lt5 c = rw add-one (rw (lt-ltb _ _ c.if-place-lt5.true) at (kind-is _ _ c.place_among-place.ensures))
+pub returns-in_err-place : goal.returns-in_err-place
+unfolding bytes_of
+returns-in_err-place c = rw c.from_residual.ensures (name_nowhere _ (c.in_err-place.ensures ∙ position-named c.args.name.now record_names))
 
 pub returns : goal.returns
-unfolding some bytes_of leading is_space fields_up_to fields
-returns c = rw (le-ltb _ _ c.if-place-lt5.false) at (kind-is _ _ c.place_among-place.ensures)
+unfolding bytes_of
+returns c = rw c.ok.ensures.value (name-found _ _ _ (c.in_ok-place.ensures ∙ position-named c.args.name.now record_names) c.try_from.ensures)

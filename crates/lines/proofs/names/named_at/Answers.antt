@@ -1,37 +1,23 @@
 -- `named_at` meets its contract: the names in the code are the names of the definitions, by computation.
-use mathlib.Core.Path.{refl}
-use borrow.Author.Tests.{ne_eqb}
-use Rattle.lists.specs.Search.{some}
+use Rattle.std.proofs.Common.{◌∙◌, arith}
 use Rattle.digits.specs.Numeral.{bytes_of}
-use Rattle.lines.specs.Inner.Told.{named_in}
-use Rattle.lines.specs.Forms.{names_at, place_in}
-use Rattle.lines.specs.Said.{leading, is_space, fields_up_to, fields}
+use Rattle.lines.specs.Forms.{operations, whats, names_at}
+use Rattle.lines.proofs.Places.{position-named, none-named}
 use Rattle.lines.proofs.names.named_at.Goals as goal
 
-pub named_among-requires : goal.named_among-requires
-unfolding some bytes_of leading is_space fields_up_to fields
-named_among-requires c = refl
+pub returns-in-Request-eq1 : goal.returns-in-Request-eq1
+unfolding bytes_of names_at
+returns-in-Request-eq1 c = rw (c.in-Request-eq1.is-0, c.in-Request-eq1.is-1) (c.place_among.ensures ∙ position-named c.args.name.now operations)
 
-pub returns-then-place-eq1 : goal.returns-then-place-eq1
-unfolding some bytes_of leading is_space fields_up_to fields names_at
-returns-then-place-eq1 c = rw (c.if-kind-eq3.true, c.if-place-eq1.true) c.named_among.ensures
+pub returns-in-Event-eq0 : goal.returns-in-Event-eq0
+unfolding bytes_of names_at
+returns-in-Event-eq0 c = rw (c.in-Event-eq0.is-0, c.in-Event-eq0.is-1) (c.place_among-in-Event-eq0.ensures ∙ position-named c.args.name.now whats)
 
-pub returns-then-kind-eq3 : goal.returns-then-kind-eq3
-unfolding names_at named_in place_in
-returns-then-kind-eq3 c = rw c.if-kind-eq3.true (simp (ne_eqb _ _ c.if-place-eq1.false))
+pub returns-in_default : goal.returns-in_default
+returns-in_default c = none-named _ _ _ (grind arith) (grind arith)
 
-pub named_among-requires-then-place-eq0 : goal.named_among-requires-then-place-eq0
-unfolding some bytes_of leading is_space fields_up_to fields
-named_among-requires-then-place-eq0 c = refl
+pub returns-in_default-2 : goal.returns-in_default-2
+returns-in_default-2 c = none-named _ _ _ (grind arith) (grind arith)
 
-pub returns-then-place-eq0 : goal.returns-then-place-eq0
-unfolding some bytes_of leading is_space fields_up_to fields names_at
-returns-then-place-eq0 c = rw (c.if-kind-eq4.true, c.if-place-eq0.true) c.named_among-then-place-eq0.ensures
-
-pub returns-then-kind-eq4 : goal.returns-then-kind-eq4
-unfolding names_at named_in place_in
-returns-then-kind-eq4 c = rw c.if-kind-eq4.true (simp (ne_eqb _ _ c.if-place-eq0.false))
-
-pub returns : goal.returns
-unfolding names_at named_in place_in
-returns c = simp (ne_eqb _ _ c.if-kind-eq3.false, ne_eqb _ _ c.if-kind-eq4.false)
+pub returns-in_default-3 : goal.returns-in_default-3
+returns-in_default-3 c = none-named _ _ _ (grind arith) (grind arith)

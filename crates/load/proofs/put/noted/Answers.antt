@@ -8,5 +8,5 @@ put-requires c = c.requires.put
 pub noted-requires : goal.noted-requires
 noted-requires c = c.requires.known
 
-pub returns : goal.returns
-returns c = record { noted = c.noted.ensures; put = c.put.ensures }
+pub returns-clause-keeps : goal.returns-clause-keeps
+returns-clause-keeps c = record { noted = c.noted.ensures; put = c.put.ensures }

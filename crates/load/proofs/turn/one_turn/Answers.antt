@@ -1,28 +1,20 @@
 -- `one_turn` meets its contract: the end, a bad header, a fault, or one record on.
 use mathlib.Core.Path.{sym}
 use native.Mathlib.Omega.{arith}
-use Rattle.trace.proofs.Records.{Body, body_at}
+use Rattle.std.proofs.Common.{rules, Err}
+use Rattle.trace.proofs.Records.{head-body}
+use Rattle.load.specs.Inner.Loop.{TurnRight}
 use Rattle.load.proofs.Verdicts.{turn-stop, turn-bad, turn-fault, turn-go, clean-request}
 use Rattle.load.proofs.turn.one_turn.Goals as goal
 
-pub body-b-requires : goal.body-b-requires
-body-b-requires c = (rw c.in-Record.is at c.head_due-found.ensures.fits).inside
-
-pub record_fault-finding-requires : goal.record_fault-finding-requires
-record_fault-finding-requires c =
-    let at_body : let d = c.args in
-    Body d.s.now d.p.at c.in-Record.kind c.in-Record.section c.in-Record.size c.body-b.result.now = let head = c.head_due-found.ensures in
-    body_at (rw c.in-Record.is at head.says) (rw c.in-Record.is at head.fits) c.body-b.ensures in
-    let h = at_body in
-    let i = c.requires in (h.bodied, i.room.known.marks-size, i.so_far.known.k-low)
+pub record_fault-requires : goal.record_fault-requires
+record_fault-requires c = ((head-body (rw (c.new.ensures.0, c.new.ensures.1, c.in-Some.is) at c.in_ok-record.ensures)).bodied, c.requires.so_far.known.k-low)
 
 pub noted-requires : goal.noted-requires
 noted-requires c =
-    let at_body : let d = c.args in
-    Body d.s.now d.p.at c.in-Record.kind c.in-Record.section c.in-Record.size c.body-b.result.now = let head = c.head_due-found.ensures in
-    body_at (rw c.in-Record.is at head.says) (rw c.in-Record.is at head.fits) c.body-b.ensures in let h = at_body in
+    let h = head-body (rw (c.new.ensures.0, c.new.ensures.1, c.in-Some.is) at c.in_ok-record.ensures) in
     let i = c.requires in
-    let found = rw c.in-Clean.is at c.record_fault-finding.ensures in
+    let found = c.in_ok-record_fault.ensures in
     record {
       known = record {
         bodied = h.bodied;
@@ -40,28 +32,25 @@ noted-requires c =
       };
     }
 
-pub returns-in-End : goal.returns-in-End
-returns-in-End c = turn-stop c.requires (sym (rw c.in-End.is at c.head_due-found.ensures.says))
+pub returns-in_default-clause-right : goal.returns-in_default-clause-right
+returns-in_default-clause-right c =
+    turn-stop c.requires (sym ((rw (c.new.ensures.0, c.new.ensures.1, c.in_default.is) at c.in_ok-record.ensures).says))
 
-pub returns-in-Bad : goal.returns-in-Bad
-returns-in-Bad c =
-    turn-bad c.requires c.in-Bad.f (sym (rw c.in-Bad.is at c.head_due-found.ensures.says))
+pub returns-in_err-record-clause-right : goal.returns-in_err-record-clause-right
+returns-in_err-record-clause-right c = let f = c.in_err-record.field-0.0 in
+    let a = c.args in
+    let turn : TurnRight a.s.now a.p a.into.now.marks.now a.into.now.words.now a.into.now.m.now (Err f) =
+    turn-bad c.requires f (sym ((rw (c.new.ensures.0, c.new.ensures.1) at c.in_err-record.ensures).says)) in
+    search rules
 
-pub returns-in-Clean : goal.returns-in-Clean
-returns-in-Clean c =
-    let at_body : let d = c.args in
-    Body d.s.now d.p.at c.in-Record.kind c.in-Record.section c.in-Record.size c.body-b.result.now = let head = c.head_due-found.ensures in
-    body_at (rw c.in-Record.is at head.says) (rw c.in-Record.is at head.fits) c.body-b.ensures in
-    let h = at_body in
-    let i = c.requires in
-    let found = rw c.in-Clean.is at c.record_fault-finding.ensures in
-    turn-go i h.stands h.inside h.bodied found c.noted.result _ _ _ c.noted.ensures
+pub returns-in_err-record_fault-clause-right : goal.returns-in_err-record_fault-clause-right
+returns-in_err-record_fault-clause-right c = let f = c.in_err-record_fault.field-0.0 in
+    let a = c.args in
+    let h = head-body (rw (c.new.ensures.0, c.new.ensures.1, c.in-Some.is) at c.in_ok-record.ensures) in
+    let turn : TurnRight a.s.now a.p a.into.now.marks.now a.into.now.words.now a.into.now.m.now (Err f) = turn-fault c.requires h.stands f c.in_err-record_fault.ensures in
+    search rules
 
-pub returns-in-Faulty : goal.returns-in-Faulty
-returns-in-Faulty c =
-    let at_body : let d = c.args in
-    Body d.s.now d.p.at c.in-Record.kind c.in-Record.section c.in-Record.size c.body-b.result.now = let head = c.head_due-found.ensures in
-    body_at (rw c.in-Record.is at head.says) (rw c.in-Record.is at head.fits) c.body-b.ensures in
-    let h = at_body in
-    let i = c.requires in
-    turn-fault i h.stands c.in-Faulty.f (rw c.in-Faulty.is at c.record_fault-finding.ensures)
+pub returns-clause-right : goal.returns-clause-right
+returns-clause-right c =
+    let h = head-body (rw (c.new.ensures.0, c.new.ensures.1, c.in-Some.is) at c.in_ok-record.ensures) in
+    turn-go c.requires h.stands h.inside h.bodied c.in_ok-record_fault.ensures c.noted.result _ _ _ c.noted.ensures.keeps

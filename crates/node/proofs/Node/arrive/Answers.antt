@@ -1,48 +1,38 @@
 -- `Node::arrive` meets its contract: each way out is a case of the machine's arrival.
-use mathlib.Core.Path.{◌≡◌, sym, ◌∙◌}
+use mathlib.Core.Path.{sym, ◌∙◌}
 use native.Mathlib.Omega.{arith}
-use Rattle.queue.specs.Inner.Queue.{tags_of}
-use Rattle.queue.specs.declared.Place.TheVariants.{At}
 use Rattle.store.specs.Inner.Memory.{view}
-use Rattle.node.specs.Inner.Node.{youngest_tag, found_in}
-use Rattle.node.proofs.Laws.{youngest-below}
-use Rattle.node.proofs.Arrivals.{full-arrives, alone-arrives, never-arrives, merged-arrives}
+use Rattle.node.proofs.Laws.{youngest-below, found-some}
+use Rattle.node.proofs.Arrivals.{Met, full-arrives, alone-arrives, never-arrives, merged-arrives}
 use Rattle.node.proofs.Node.arrive.Goals as goal
+use Rattle.node.proofs.Node.arrive.Goals.{After-operation_at-arriving}
 
-pub returns-then-w-waiting : goal.returns-then-w-waiting
-returns-then-w-waiting c =
-    let a = c.args in
-    full-arrives a.self a.m.now a.t a.q a.w c.requires.m_len c.append.result c.append.ensures (omega arith)
+met : (c : After-operation_at-arriving) →
+    Met c.args.self c.args.m.now c.args.t c.in-Some.i c.younger-older.result c.operation_at-before.result c.operation_at-arriving.result
+met c = record {
+  place = found-some (view c.args.m.now).fixed.address c.args.self.queue _ c.youngest.ensures c.in-Some.is c.address_of-address.ensures;
+  read = c.younger-older.ensures;
+  before-is = c.operation_at-before.ensures;
+  arriving-is = c.operation_at-arriving.ensures;
+}
+
+pub returns-then-w-self : goal.returns-then-w-self
+returns-then-w-self c = full-arrives c.told-m c.append.ensures c.args.w (omega arith)
 
 pub returns-in_default : goal.returns-in_default
-returns-in_default c = alone-arrives c.args.self c.args.m.now c.args.t c.args.q c.args.w c.requires.m_len c.append-in_default.result c.append-in_default.ensures
-    (rw (c.in_default.is, c.address_of-address.ensures) at c.youngest-found.ensures)
+returns-in_default c = alone-arrives c.told-m c.append-in_default.ensures (rw (c.in_default.is, c.address_of-address.ensures) at c.youngest.ensures)
 
 pub younger-older-requires : goal.younger-older-requires
 younger-older-requires c =
-    let place : let a = c.args in
-    found_in a.self.queue (At c.in-At.i) ≡
-    youngest_tag (view a.m.now).fixed.address ((view a.m.now).fixed.address a.t) (tags_of a.self.queue) = rw (c.in-At.is, c.address_of-address.ensures) at c.youngest-found.ensures in omega (arith, youngest-below _ _ c.args.self.queue c.in-At.i place, c.requires.held_node.queue)
+    let place = found-some (view c.args.m.now).fixed.address c.args.self.queue _ c.youngest.ensures c.in-Some.is c.address_of-address.ensures in
+    omega (arith, youngest-below _ _ c.args.self.queue c.in-Some.i place, c.requires.held_node.queue)
 
-pub returns-in_default-both : goal.returns-in_default-both
-returns-in_default-both c =
-    let place : let a = c.args in
-    found_in a.self.queue (At c.in-At.i) ≡
-    youngest_tag (view a.m.now).fixed.address ((view a.m.now).fixed.address a.t) (tags_of a.self.queue) = rw (c.in-At.is, c.address_of-address.ensures) at c.youngest-found.ensures in never-arrives c.args.self c.args.m.now c.args.t c.args.q c.args.w c.in-At.i c.younger-older.result
-    place c.younger-older.ensures
-    c.operation_at-before.result c.operation_at-arriving.result c.operation_at-before.ensures c.operation_at-arriving.ensures
-    c.requires.m_len c.append-in_default-both.result c.append-in_default-both.ensures (sym c.in_default-both.is ∙ c.merge-both.ensures)
-
-pub push-longer-requires : goal.push-longer-requires
-push-longer-requires c = omega (arith, c.requires.q_bound.1)
+pub returns-in_default-merge : goal.returns-in_default-merge
+returns-in_default-merge c =
+    never-arrives (met (goal.at.returns-in_default-merge c).After-operation_at-arriving) c.told-m c.append-in_default-merge.ensures
+    (sym c.in_default-merge.is ∙ c.merge.ensures)
 
 pub returns : goal.returns
 returns c =
-    let place : let a = c.args in
-    found_in a.self.queue (At c.in-At.i) ≡
-    youngest_tag (view a.m.now).fixed.address ((view a.m.now).fixed.address a.t) (tags_of a.self.queue) = rw (c.in-At.is, c.address_of-address.ensures) at c.youngest-found.ensures in merged-arrives c.args.self c.args.m.now c.args.t c.args.q c.args.w c.in-At.i c.younger-older.result
-    place c.younger-older.ensures
-    c.operation_at-before.result c.operation_at-arriving.result c.operation_at-before.ensures c.operation_at-arriving.ensures
-    c.requires.held_node c.requires.apart_at (omega arith) _
-    (sym c.in-One.is ∙ c.merge-both.ensures)
-    _ _ c.set_operation.ensures c.set_operation-2.ensures c.push-longer.result c.push-longer.ensures.0 c.push-longer.ensures.1
+    merged-arrives (met (goal.at.returns c).After-operation_at-arriving) c.requires.held_node c.requires.apart_at c.args.w (omega arith)
+    (sym c.in-Some-merge.is ∙ c.merge.ensures) c.set_operation.ensures c.set_operation-2.ensures c.push-self.ensures.0 c.push-self.ensures.1

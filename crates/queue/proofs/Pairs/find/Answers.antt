@@ -1,18 +1,24 @@
 -- `queue::Pairs::find` meets its contract: the lowest place with the tag is that of the oldest record, if it is one of those in use.
-use Rattle.queue.proofs.Laws.{find_none, find_at, find-nowhere}
+use native.Mathlib.Omega.{arith}
+use Rattle.queue.proofs.Laws.{found-there, found-nowhere}
 use Rattle.queue.proofs.Pairs.find.Goals as goal
+
+pub returns-in-Some : goal.returns-in-Some
+returns-in-Some c =
+    let l = c.args.self in
+    found-there l.firsts l.seconds l.len c.args.t c.requires c.in-Some.ensures.1 c.if-i-self.true
+
+pub returns-in_default : goal.returns-in_default
+returns-in_default c =
+    let l = c.args.self in
+    found-nowhere l.firsts l.seconds l.len c.args.t c.requires c.in-Some.i c.if-i-self.false c.in-Some.ensures.1.below
+
+pub returns-in_default-2 : goal.returns-in_default-2
+returns-in_default-2 c =
+    let l = c.args.self in
+    found-nowhere l.firsts l.seconds l.len c.args.t c.requires 8 c.requires c.in_default.ensures.below
 
 pub returns-then-self-eq0 : goal.returns-then-self-eq0
 returns-then-self-eq0 c =
     let l = c.args.self in
-    find_none l.firsts l.seconds l.len c.args.t c.if-self-eq0.true
-
-pub returns-then-i-self : goal.returns-then-i-self
-returns-then-i-self c =
-    let l = c.args.self in
-    find_at l.firsts l.seconds l.len c.args.t c.place_of-i.result c.place_of-i.ensures c.requires c.if-i-self.true
-
-pub returns : goal.returns
-returns c =
-    let l = c.args.self in
-    find-nowhere l.firsts l.seconds l.len c.args.t c.place_of-i.result c.place_of-i.ensures c.requires c.if-i-self.false
+    found-nowhere l.firsts l.seconds l.len c.args.t c.requires 0 (omega (arith, c.if-self-eq0.true)) (λ j m. absurd (omega arith))

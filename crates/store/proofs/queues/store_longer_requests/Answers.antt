@@ -3,16 +3,10 @@ use native.Mathlib.Omega.{arith}
 use Rattle.store.proofs.Queued.{request-count-kept, requests-stored}
 use Rattle.store.proofs.queues.store_longer_requests.Goals as goal
 
-pub one_more-requires : goal.one_more-requires
-one_more-requires c =
-    let on = c.requires.level_nonzero in
-    let kept = request-count-kept c.args.m.now c.requires.m_len c.args.level c.args.position (on.1, on.2) on.0 c.args.queue.items in
-    (on.2, omega (arith, kept, c.requires.held_tags))
-
 pub returns : goal.returns
 returns c =
     let on = c.requires.level_nonzero in
     let queue = c.args.queue in
-    let kept = request-count-kept c.args.m.now c.requires.m_len c.args.level c.args.position (on.1, on.2) on.0 queue.items in
-    requests-stored c.args.m.now c.requires.m_len c.args.level c.args.position (on.1, on.2) on.0 queue.items _ _ queue.len
+    let kept = request-count-kept c.args.m.now c.told-m c.args.level c.args.position (on.1, on.2) on.0 queue.items in
+    requests-stored c.args.m.now c.told-m c.args.level c.args.position (on.1, on.2) on.0 queue.items _ _ queue.len
     (omega (arith, kept, c.requires.held_tags)) c.one_more.ensures

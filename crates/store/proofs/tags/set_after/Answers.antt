@@ -4,4 +4,4 @@ use Rattle.store.proofs.tags.set_after.Goals as goal
 
 pub returns : goal.returns
 returns c =
-    after-set c.args.m.now c.requires.m_len c.args.t c.requires.t_bound.0 c.args.n c.with_after.result c.requires.t_bound.1 c.with_after.ensures
+    after-set c.args.m.now c.told-m c.args.t c.requires.0 c.args.n c.with_after.result c.requires.1 c.with_after.ensures

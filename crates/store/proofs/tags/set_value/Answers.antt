@@ -4,4 +4,4 @@ use Rattle.store.proofs.Tagged.{value_set}
 use Rattle.store.proofs.tags.set_value.Goals as goal
 
 pub returns : goal.returns
-returns c = value_set c.args.m.now c.requires c.args.t (omega arith) c.args.value
+returns c = value_set c.args.m.now c.told-m c.args.t (omega arith) c.args.value

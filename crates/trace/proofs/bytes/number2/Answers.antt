@@ -1,9 +1,13 @@
--- `number2` meets its contract: the low byte and 256 of the high one.
+-- `number2` meets its contract: std's sum of the bytes is the number.
+use mathlib.Core.Path.{◌≡◌, ◌∙◌}
 use native.Mathlib.Omega.{arith}
-use native.Mathlib.Numerals.{towards_suc}
-use Rattle.trace.specs.Bytes.{number}
+use native.Mathlib.Nat.{add-sub_cancel_left}
+use lib.ListN.{take, drop}
+use Rattle.trace.proofs.Numbers.{number-read}
 use Rattle.trace.proofs.bytes.number2.Goals as goal
 
 pub returns : goal.returns
-unfolding number
-returns c = simp towards_suc (omega (arith, c.wide.ensures.0, simp towards_suc at c.wide-2.ensures.0))
+returns c = let s = c.args.s.now in
+    let read = rw c.unwrap.ensures at c.try_into.ensures.1 in
+    let is : c.unwrap.result ≡ take 2 (drop c.args.i s) = rw add-sub_cancel_left at read.same in
+    (c.into.ensures ∙ c.from_le_bytes.ensures ∙ number-read 1 s c.args.i is, omega arith)

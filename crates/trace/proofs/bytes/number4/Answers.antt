@@ -1,9 +1,13 @@
--- `number4` meets its contract: two bytes joined with the next two.
+-- `number4` meets its contract: std's sum of the bytes is the number.
+use mathlib.Core.Path.{◌≡◌, ◌∙◌}
 use native.Mathlib.Omega.{arith}
-use Rattle.trace.proofs.Numbers.{number-join}
+use native.Mathlib.Nat.{add-sub_cancel_left}
+use lib.ListN.{take, drop}
+use Rattle.trace.proofs.Numbers.{number-read}
 use Rattle.trace.proofs.bytes.number4.Goals as goal
 
 pub returns : goal.returns
-returns c =
-    let a = c.args in
-    omega (arith, number-join 2 2 a.s.now a.i, c.number2.ensures.0, c.number2-2.ensures.0)
+returns c = let s = c.args.s.now in
+    let read = rw c.unwrap.ensures at c.try_into.ensures.1 in
+    let is : c.unwrap.result ≡ take 4 (drop c.args.i s) = rw add-sub_cancel_left at read.same in
+    (c.into.ensures ∙ c.from_le_bytes.ensures ∙ number-read 3 s c.args.i is, omega arith)

@@ -4,11 +4,5 @@ use lib.Pow.{pow_pos, pow_mono}
 use Rattle.trace.proofs.Events.{mask_is}
 use Rattle.trace.proofs.masked.fixed_bits.Goals as goal
 
-pub overflow_sub-result : goal.overflow_sub-result
-overflow_sub-result c = omega (arith, pow_mono c.requires)
-
-pub overflow_add-result : goal.overflow_add-result
-overflow_add-result c = omega (arith, pow_pos c.args.k, pow_mono c.requires)
-
 pub returns : goal.returns
 returns c = mask_is c.args.k _ c.requires (omega (arith, pow_pos c.args.k, pow_mono c.requires))

@@ -2,12 +2,11 @@
 use native.Mathlib.Omega.{arith}
 use lib.ListN.{length-append}
 use Rattle.digits.proofs.Numerals.{decimal-word}
+use Rattle.digits.proofs.Buffer.{writes-within}
 use Rattle.writer.proofs.told.put_number.Goals as goal
 
-pub put_number-requires : goal.put_number-requires
-put_number-requires c = simp length-append (omega (arith, decimal-word _ c.ranges.n.fits, c.requires))
+pub number-requires : goal.number-requires
+number-requires c = simp length-append (omega (arith, decimal-word _ c.ranges.n.fits, c.requires))
 
 pub returns : goal.returns
-returns c =
-    let written = c.put_number.ensures in
-    (written, omega (arith, simp length-append at written.behind, decimal-word _ c.ranges.n.fits))
+returns c = writes-within 21 (simp length-append (omega (arith, decimal-word _ c.ranges.n.fits))) c.number.ensures

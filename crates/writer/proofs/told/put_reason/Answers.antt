@@ -1,14 +1,13 @@
 -- `told::put_reason` meets its contract: a text for each reason.
 use native.Mathlib.Omega.{arith}
 use Rattle.digits.specs.Numeral.{bytes_of}
+use Rattle.digits.proofs.Buffer.{writes-within}
 use Rattle.writer.specs.Told.{reason_fields}
 use Rattle.writer.proofs.told.put_reason.Goals as goal
 
 pub returns-in-Name : goal.returns-in-Name
 unfolding reason_fields bytes_of
-returns-in-Name c =
-    let written = c.put_field.ensures in
-    (rw c.in-Name.is written, omega (arith, written.behind))
+returns-in-Name c = rw c.in-Name.is (writes-within 48 (omega arith) c.field.ensures)
 
 pub returns-in-Missing : goal.returns-in-Missing
 unfolding reason_fields bytes_of

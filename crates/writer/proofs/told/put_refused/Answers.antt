@@ -1,26 +1,45 @@
 -- `told::put_refused` meets its contract: the refusal, the offset, and the number of a line where there is one.
 use native.Mathlib.Omega.{arith}
-use borrow.Author.Tests.{eq-eqb, ne_eqb}
+use borrow.Author.Rules.{rules}
 use Rattle.digits.specs.Numeral.{bytes_of}
-use Rattle.digits.proofs.Buffer.{wrote_then}
+use Rattle.digits.proofs.Buffer.{writes-within, within_then, within-more, room-within, new-room, new-wrote}
 use Rattle.writer.specs.Told.{line_fields, refused_text}
 use Rattle.writer.proofs.told.put_refused.Goals as goal
 
-pub returns-then-number-eq0 : goal.returns-then-number-eq0
+pub put_number-requires-in_default : goal.put_number-requires-in_default
+put_number-requires-in_default c =
+    let room = new-room c.new-told.result c.new-told.ensures.bytes c.new-told.ensures.at 128 c.requires in
+    room-within (within_then (writes-within 8 (omega arith) c.field.ensures) c.put_number.ensures) 21 (omega (arith, room))
+
+pub put_number-requires-2 : goal.put_number-requires-2
+put_number-requires-2 c =
+    let room = new-room c.new-told.result c.new-told.ensures.bytes c.new-told.ensures.at 128 c.requires in
+    room-within (within_then (writes-within 8 (omega arith) c.field.ensures) c.put_number.ensures) 21 (omega (arith, room))
+
+pub field-requires-2 : goal.field-requires-2
+field-requires-2 c =
+    let room = new-room c.new-told.result c.new-told.ensures.bytes c.new-told.ensures.at 128 c.requires in
+    let two = within_then c.put_number.ensures c.put_number-2.ensures in
+    room-within (within_then (writes-within 8 (omega arith) c.field.ensures) two) 5 (omega (arith, room))
+
+pub put_number-requires-3 : goal.put_number-requires-3
+put_number-requires-3 c =
+    let room = new-room c.new-told.result c.new-told.ensures.bytes c.new-told.ensures.at 128 c.requires in
+    let two = within_then c.put_number.ensures (within_then c.put_number-2.ensures (writes-within 5 (omega arith) c.field-2.ensures)) in
+    room-within (within_then (writes-within 8 (omega arith) c.field.ensures) two) 21 (omega (arith, room))
+
+pub returns-in_default : goal.returns-in_default
 unfolding refused_text line_fields bytes_of
-returns-then-number-eq0 c =
-    let f = c.put_field-first.ensures in
-    let r = c.put_number-second.ensures in
-    let o = c.put_number.ensures in
-    (rw (eq-eqb _ _ c.if-number-eq0.true) (wrote_then f (wrote_then r.0 o.0)), omega (arith, f.behind, r.1, o.1))
+returns-in_default c =
+    let new = c.new-told.ensures in
+    let all = within_then (writes-within 8 (omega arith) c.field.ensures) (within_then c.put_number.ensures c.put_number-in_default.ensures) in
+    rw c.in_default.is (new-wrote new.bytes new.at (within-more {a = 50} (omega arith) all) (search rules))
 
 pub returns : goal.returns
 unfolding refused_text line_fields bytes_of
 returns c =
-    let f = c.put_field-first.ensures in
-    let r = c.put_number-second.ensures in
-    let o = c.put_number-third.ensures in
-    let w = c.put_field-last.ensures in
-    let n = c.put_number-2.ensures in
-    let all = wrote_then f (wrote_then r.0 (wrote_then o.0 (wrote_then w n.0))) in
-    (rw (ne_eqb _ _ c.if-number-eq0.false) all, omega (arith, f.behind, r.1, o.1, w.behind, n.1))
+    let new = c.new-told.ensures in
+    let last = within_then (writes-within 5 (omega arith) c.field-2.ensures) c.put_number-3.ensures in
+    let numbers = within_then c.put_number.ensures (within_then c.put_number-2.ensures last) in
+    let all = within_then (writes-within 8 (omega arith) c.field.ensures) numbers in
+    rw c.in-Some.is (new-wrote new.bytes new.at (within-more {a = 76} (omega arith) all) (search rules))

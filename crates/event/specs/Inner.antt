@@ -1,0 +1,2 @@
+-- What only proofs and the contracts of inner functions need: no statement of a public function rests on it.
+pub mod Steps

@@ -1,9 +1,0 @@
--- `forwards` meets its contract: a row of forwards, as that of collects.
-use Rattle.rounds.proofs.Rows.{Alone}
-use Rattle.rounds.proofs.forwards.Given as goal
-
-abbrev pub invariant-loop-left : goal.invariant-loop-left
-invariant-loop-left l = Alone 1 l.level l.initial.m l.m l.left
-
-abbrev pub decreases-loop-left : goal.decreases-loop-left
-decreases-loop-left l = l.left
