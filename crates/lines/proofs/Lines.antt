@@ -1,10 +1,12 @@
 -- Laws of a line as a whole: what stands first decides.
 use Prim.Native.Nat.{ℕ}
 use mathlib.Core.Path.{◌≡◌, refl, sym, ◌∙◌, ap, subst}
+use mathlib.Core.Logic.{◌≢◌}
 use mathlib.Core.Bool.{Bool, true, false}
 use mathlib.Core.List.{List, [], ◌∷◌}
 use lib.ListN.{length, get_or}
 use lib.Dec.{eqb}
+use borrow.Author.Tests.{ne_eqb}
 use Rattle.lists.specs.Choice.{choose}
 use Rattle.lists.proofs.Tests.{clash, test-clash}
 use Rattle.trace.specs.Table.{Row, is_row, kind_row}
@@ -23,7 +25,7 @@ use Rattle.std.specs.Option.{option_map}
 use Rattle.std.specs.Prelude.{Option, Some, None, Result, Ok, Err}
 use Rattle.std.specs.Result.{result_ok}
 use Rattle.lines.proofs.Places.{record_names, kind-is}
-use Rattle.lines.proofs.Rows.{named-row}
+use Rattle.lines.proofs.Rows.{named-row, named-is}
 
 -- the row of a name that some record has, and of one that none has
 some-kind : (name : List ℕ) {kind : ℕ} → Some kind ≡ kind_told name → (is_row (row_named name) ≡ true) × (kind ≡ (row_named name).kind)
@@ -42,8 +44,12 @@ no-kind name e = go (is_row (row_named name)) e
     go true e = clash (cc)
     go false e = refl
 
-kind-row : (name : List ℕ) {kind : ℕ} → Some kind ≡ kind_told name → is_row (kind_row kind) ≡ true
-kind-row name {kind} e = let k = some-kind name e in rw (k.1, named-row name) k.0
+-- the row of a name that some record has
+pub kind-row : (name : List ℕ) {kind : ℕ} → kind ≡ (row_named name).kind → kind ≢ 0 → is_row (kind_row kind) ≡ true
+kind-row name {kind} e n = rw (e, named-row name, named-is name, ← e, ne_eqb kind 0 n)
+
+told-row : (name : List ℕ) {kind : ℕ} → Some kind ≡ kind_told name → is_row (kind_row kind) ≡ true
+told-row name {kind} e = let k = some-kind name e in rw (k.1, named-row name) k.0
 
 -- the kind whose number stands one past the place of its name
 pub name_nowhere : (name : List ℕ) → None ≡ named_in record_names name → None ≡ kind_told name
@@ -57,7 +63,7 @@ name-found name place r e told =
   where
     go : (r : Result RecordKind Fault) → KindTold (place + 1) r → Some (suc place) ≡ kind_told name → option_map number_of_kind (result_ok r) ≡ kind_told name
     go (Ok kind) told counted = ap (λ (n : ℕ). Some n) (told ∙ add-one place) ∙ counted
-    go (Err f) told counted = test-clash (kind-row name counted) (rw add-one at told.1)
+    go (Err f) told counted = test-clash (told-row name counted) (rw add-one at told.1)
 
 module _ (line : List ℕ) {values : List ℕ} (room : length values ≡ 5) where
   pub comment-read : eqb (get_or line 0 0) 35 ≡ true → LineRead line (Ok None) values

@@ -1,5 +1,5 @@
 // The results of a run, copied out to the caller's lent slices: one function for each kind of slice, which may be longer than what goes
-// into it. Each writes by index: after `iter_mut` the prover knows the length alone.
+// into it. A loop writes by index: after `iter_mut` the prover knows the length alone.
 #![tactic(auto)]
 
 ghost use Rattle.std.specs.Prelude.{◌≡◌, ◌≤◌, ◌<◌, length};
