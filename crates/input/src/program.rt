@@ -14,7 +14,7 @@ pub struct Program {
 
 impl Program {
     // Standard input at the start of a lent buffer, and how many bytes it has; that it cannot be read is told.
-    pub fn read<R: Read>(self, rt: &impl Eprint, reader: &mut R, input: &mut [u8]) -> Option<usize>
+    fn read<R: Read>(self, rt: &impl Eprint, reader: &mut R, input: &mut [u8]) -> Option<usize>
         ensures { IfSome result (λ n. ReadWhole (R.remaining reader.old) (R.remaining reader.new) n input.new) }
     {
         let read = read_all(reader, input);
@@ -27,7 +27,7 @@ impl Program {
     }
 
     // What was made of the input, to standard output; that it cannot be written is told.
-    pub fn write(self, rt: &(impl Print + Eprint), text: &[u8]) {
+    fn write(self, rt: &(impl Print + Eprint), text: &[u8]) {
         if rt.write_all(text).is_err() {
             let name = self.name;
             let writes = self.writes;
