@@ -4,7 +4,7 @@
 ghost use Rattle.std.specs.Prelude.{◌≡◌, [], ◌∷◌, ◌++◌, ◌+◌, ◌≤◌, ◌<◌, length, map};
 ghost use Rattle.digits.specs.Numeral.{digit, decimal};
 ghost use Rattle.digits.specs.Line.{line};
-ghost use Rattle.digits.specs.Inner.Buffer.{HasRoom, Writes};
+ghost use Rattle.digits.specs.Inner.Buffer.{HasRoom, Wrote, Writes};
 
 pub mod read;
 
@@ -42,17 +42,22 @@ impl<'a> LentBuffer<'a> {
         self.at = end;
     }
 
+    // The same one by one: a name in the code becomes a store or two so, and one that a table tells is put without memmove of C.
+    fn name(&mut self, name: &[u8])
+        requires { HasRoom self.old (length name.now) }
+        ensures { Writes self.old name.now self.new }
+    {
+        for c in name {
+            self.byte(*c);
+        }
+    }
+
     // Digit by digit: std's `Display` goes through a formatter, which may fail and says less of the bytes.
     pub fn decimal(&mut self, n: u64)
         requires { HasRoom self.old (length (decimal n)) }
         ensures { Writes self.old (decimal n) self.new }
     {
-        if n < 10 {
-            self.byte(digit(n));
-        } else {
-            self.decimal(n / 10);
-            self.byte(digit(n % 10));
-        }
+        self.at = put_decimal(self.bytes, self.at, n);
     }
 
     // A field as it is given, and the byte behind it: a space, or the line's newline.
@@ -60,7 +65,7 @@ impl<'a> LentBuffer<'a> {
         requires { HasRoom self.old (length (field.now ++ (behind ∷ []))) }
         ensures { Writes self.old (field.now ++ (behind ∷ [])) self.new }
     {
-        self.bytes(field);
+        self.name(field);
         self.byte(behind);
     }
 
@@ -78,12 +83,27 @@ impl<'a> LentBuffer<'a> {
         requires { HasRoom self.old (length (line (name.now ∷ map decimal numbers.now))) }
         ensures { Writes self.old (line (name.now ∷ map decimal numbers.now)) self.new }
     {
-        self.bytes(name);
+        self.name(name);
         for n in numbers {
             self.byte(b' ');
             self.decimal(*n);
         }
         self.byte(b'\n');
+    }
+}
+
+// The offset goes by value: behind a reference it would lie in memory, and each byte would wait for the store of the one before.
+fn put_decimal(out: &mut [u8], at: usize, n: u64) -> usize
+    requires { at + length (decimal n) ≤ length out.old }
+    ensures { Wrote out.old at (decimal n) out.new result }
+{
+    if n < 10 {
+        out[at] = digit(n);
+        at + 1
+    } else {
+        let next = put_decimal(out, at, n / 10);
+        out[next] = digit(n % 10);
+        next + 1
     }
 }
 

@@ -1,10 +1,12 @@
 // Where the fields of a line begin and end.
-ghost use Rattle.std.specs.Prelude.{◌≡◌, [], ◌∷◌, length, take_while, MatchOption};
-ghost use Rattle.lines.specs.Said.{is_space, in_field, fields};
+ghost use Rattle.std.specs.Prelude.{◌≡◌, [], ◌∷◌, length, take_while, MatchOption, IfSome};
+ghost use Rattle.lines.specs.Said.{is_space, in_field, past_spaces, first_field, past_field, fields};
 
-// The first field of a line and what stands behind it, where the line has more than spaces.
+// The first field of a line and all that stands behind it, where the line has more than spaces.
 pub fn split_field(line: &[u8]) -> Option<(&[u8], &[u8])>
-    ensures { MatchOption result (fields line.now ≡ []) (λ parts. fields line.now ≡ parts.0.now ∷ fields parts.1.now) }
+    ensures split { MatchOption result (fields line.now ≡ []) (λ parts. fields line.now ≡ parts.0.now ∷ fields parts.1.now) }
+    ensures stands { IfSome result (λ parts. (parts.0.now ≡ first_field (past_spaces line.now))
+        × (parts.1.now ≡ past_field (past_spaces line.now))) }
 {
     let begun = &line[leading_spaces(line)..];
     if begun.is_empty() {

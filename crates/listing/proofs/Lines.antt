@@ -1,10 +1,12 @@
 -- The length of fields, fields that have no name, and the line of a record's last kind.
 use Prim.Native.Nat.{ℕ, zero, suc, ◌^◌, ◌≤◌, ◌<◌}
+use mathlib.Core.Path.{◌≡◌}
 use mathlib.Core.List.{[], ◌∷◌, ◌++◌}
 use native.Mathlib.Omega.{arith}
-use lib.ListN.{length, length-append}
+use lib.ListN.{length, length-append, get_or-eq_default}
 use Rattle.digits.specs.Numeral.{bytes_of, decimal}
 use Rattle.digits.proofs.Numerals.{numeral-length, decimal-word}
+use Rattle.lines.specs.Forms.{whats}
 use Rattle.listing.specs.Inner.Fields.{operation_shown, what_shown}
 
 -- ---- length
@@ -45,3 +47,8 @@ operation-field v h = simp length-append (omega (arith, operation-short v h))
 
 pub what-field : (v : ℕ) → v < 256 → length (what_shown v ++ (32 ∷ [])) ≤ 8
 what-field v h = simp length-append (omega (arith, what-short v h))
+
+-- a number past the last has none
+pub what-unnamed : (v : ℕ) → 4 < v → what_shown v ≡ decimal v
+unfolding what_shown
+what-unnamed v h = get_or-eq_default whats (decimal v) {n = v} (omega arith)

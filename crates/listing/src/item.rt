@@ -9,9 +9,9 @@ ghost use Rattle.trace.specs.Inner.Kinds.{number_of_kind};
 ghost use Rattle.trace.specs.Inner.Known.{shape_in, word_in, request_in, event_in};
 ghost use Rattle.listing.specs.Listing.{item_line};
 
-use crate::field::put_named;
+use crate::field::{put_named, put_what};
 use digits::LentBuffer;
-use lines::{OPERATIONS, WHATS};
+use lines::OPERATIONS;
 use trace::bytes::{number2, number8};
 use trace::kind::RecordKind;
 use trace::record::Record;
@@ -67,7 +67,7 @@ fn put_event(b: &[u8], out: &mut LentBuffer)
     ensures { WritesWithin 28 out.old (item_line (act (event (event_in b.now)))) out.new }
 {
     out.field(b"event", b' ');
-    put_named(out, &WHATS, b[0]);
+    put_what(out, b[0]);
     out.number(b[1] as u64, b' ');
     out.number(b[2] as u64, b'\n');
 }

@@ -43,7 +43,11 @@ fn past_drains(s: &[u8], at: usize) -> usize
     ensures { DrainsPassed s.now at result }
 {
     let mut i = at;
-    while s.len() - i >= EIGHT_DRAINS && four_drains(s, i) && four_drains(s, i + FOUR_DRAINS) {
+    // the kind of the eighth first: that byte tells most runs that are shorter
+    while s.len() - i >= EIGHT_DRAINS
+        && s[i + EIGHT_DRAINS - DRAIN_SIZE + 2] == RecordKind::Drain as u8
+        && four_drains(s, i) & four_drains(s, i + FOUR_DRAINS)
+    {
         i += EIGHT_DRAINS;
     }
     i
@@ -53,8 +57,9 @@ fn four_drains(s: &[u8], i: usize) -> bool
     requires { i + 24 ≤ length s.now }
     ensures { FourDrains s.now i result }
 {
-    number4(s, i) == DRAIN_HEADER
-        && number4(s, i + DRAIN_SIZE) == DRAIN_HEADER
-        && number4(s, i + 2 * DRAIN_SIZE) == DRAIN_HEADER
-        && number4(s, i + 3 * DRAIN_SIZE) == DRAIN_HEADER
+    // `&` in place of `&&`: one jump in place of four, so that the time hangs less on where the code lies
+    (number4(s, i) == DRAIN_HEADER)
+        & (number4(s, i + DRAIN_SIZE) == DRAIN_HEADER)
+        & (number4(s, i + 2 * DRAIN_SIZE) == DRAIN_HEADER)
+        & (number4(s, i + 3 * DRAIN_SIZE) == DRAIN_HEADER)
 }

@@ -4,7 +4,7 @@ use Rattle.digits.proofs.Buffer.{writes_then, room_behind}
 use Rattle.digits.proofs.LentBuffer.field.Goals as goal
 
 pub byte-requires : goal.byte-requires
-byte-requires c = room_behind c.bytes.ensures (c.args.behind ∷ []) c.requires
+byte-requires c = room_behind c.name.ensures (c.args.behind ∷ []) c.requires
 
 pub returns : goal.returns
-returns c = writes_then c.bytes.ensures c.byte.ensures
+returns c = writes_then c.name.ensures c.byte.ensures

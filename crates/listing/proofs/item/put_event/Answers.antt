@@ -9,21 +9,21 @@ use Rattle.listing.specs.Inner.Fields.{what_shown}
 use Rattle.listing.proofs.Lines.{byte-field, what-field}
 use Rattle.listing.proofs.item.put_event.Goals as goal
 
-pub put_named-requires : goal.put_named-requires
+pub put_what-requires : goal.put_what-requires
 unfolding what_shown bytes_of
-put_named-requires c =
+put_what-requires c =
     room-within (writes-within 6 (omega arith) c.field.ensures) _ (omega (arith, what-field _ (c.type_inv.b 0).fits, c.requires.room))
 
 pub number-requires : goal.number-requires
 unfolding what_shown bytes_of
 number-requires c =
-    let what = writes-within 8 (what-field _ (c.type_inv.b 0).fits) c.put_named.ensures in
+    let what = writes-within 8 (what-field _ (c.type_inv.b 0).fits) c.put_what.ensures in
     room-within (within_then (writes-within 6 (omega arith) c.field.ensures) what) _ (omega (arith, byte-field _ 32 (c.type_inv.b 1).fits, c.requires.room))
 
 pub number-requires-2 : goal.number-requires-2
 unfolding what_shown bytes_of
 number-requires-2 c =
-    let what = writes-within 8 (what-field _ (c.type_inv.b 0).fits) c.put_named.ensures in
+    let what = writes-within 8 (what-field _ (c.type_inv.b 0).fits) c.put_what.ensures in
     let level = writes-within 4 (byte-field _ 32 (c.type_inv.b 1).fits) c.number.ensures in
     let before = within_then (writes-within 6 (omega arith) c.field.ensures) (within_then what level) in
     room-within before _ (omega (arith, byte-field _ 10 (c.type_inv.b 2).fits, c.requires.room))
@@ -31,7 +31,7 @@ number-requires-2 c =
 pub returns : goal.returns
 unfolding what_shown parts_line shown_from parts_of names_at forms name_in bytes_of
 returns c =
-    let what = writes-within 8 (what-field _ (c.type_inv.b 0).fits) c.put_named.ensures in
+    let what = writes-within 8 (what-field _ (c.type_inv.b 0).fits) c.put_what.ensures in
     let level = writes-within 4 (byte-field _ 32 (c.type_inv.b 1).fits) c.number.ensures in
     let position = writes-within 4 (byte-field _ 10 (c.type_inv.b 2).fits) c.number-2.ensures in
     within-more {a = 22} (omega arith) (within_then (writes-within 6 (omega arith) c.field.ensures) (within_then what (within_then level position)))

@@ -1,5 +1,6 @@
 -- `past_drains` meets its contract: stride by stride.
 use native.Mathlib.Omega.{arith}
+use Rattle.std.proofs.Common.{rules}
 use Rattle.trace.proofs.Runs.{passed-eight}
 use Rattle.trace.proofs.passed.past_drains.Goals as goal
 
@@ -9,4 +10,4 @@ overflow_sub-s c = (c.loop-i.invariant.passed 0).inside
 pub loop-i-preserved : goal.loop-i-preserved
 loop-i-preserved c = passed-eight (record { below = λ j. (c.type_inv.s j).fits }) c.loop-i.invariant
     (omega (arith, c.loop-i-test.true, (c.loop-i.invariant.passed 0).inside))
-    c.four_drains.ensures c.if-four_drains.true c.four_drains-then-four_drains.ensures c.if-four_drains-2.true
+    c.four_drains.ensures (search rules) c.four_drains-then-s-i.ensures (search rules)

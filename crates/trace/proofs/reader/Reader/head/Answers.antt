@@ -1,16 +1,17 @@
 -- `head` meets its contract: each way out is what stands at the offset.
-use Prim.Native.Nat.{◌+◌}
-use mathlib.Core.Path.{◌≡◌, refl, sym, ◌∙◌}
+use Prim.Native.Nat.{ℕ, ◌+◌}
+use mathlib.Core.Path.{◌≡◌, refl, sym, ap, ◌∙◌}
 use mathlib.Core.Bool.{false}
 use lib.ListN.{take, drop}
-use Rattle.std.proofs.Common.{rules, Err}
+use Rattle.std.proofs.Common.{rules, Ok, Err, Some}
 use native.Mathlib.Omega.{arith}
 use borrow.Author.Tests.{lt-ltb, eq-eqb, ne_eqb}
 use Rattle.trace.specs.Bytes.{number}
-use Rattle.trace.specs.Table.{is_row, kind_row}
+use Rattle.trace.specs.Table.{is_row, kind_row, body_size}
 use Rattle.trace.specs.Inner.Kinds.{number_of_kind}
 use Rattle.trace.specs.Inner.Told.{HeadRead}
 use Rattle.trace.specs.declared.Fault.TheVariants.{Kind}
+use Rattle.trace.specs.declared.kind.RecordKind.{RecordKind}
 use Rattle.trace.proofs.Records.{Header, split_at, unknown-kind, length-wrong, body-cut, body-whole}
 use Rattle.trace.proofs.reader.Reader.head.Goals as goal
 
@@ -54,12 +55,16 @@ returns-then-left-size c = let d = c.args.self in
 
 pub returns : goal.returns
 returns c = let d = c.args.self in
-    let header : Header d.src.now d.at c.number2-2.result (number_of_kind c.in_ok-kind.kind) = record {
+    -- of each kind that the number tells
+    let read : (kind : RecordKind) → number_of_kind kind ≡ c.number2.result →
+    HeadRead d.src.now d.at (Ok (Some (record { kind = kind; body = c.body.result }))) = λ kind told.
+    let header : Header d.src.now d.at c.number2-2.result (number_of_kind kind) = record {
       some = c.if-left-lt-HEADER_SIZE.false;
       len_is = c.number2-2.ensures.0;
-      kind-is = c.in_ok-kind.ensures ∙ c.number2.ensures.0;
+      kind-is = told ∙ c.number2.ensures.0;
     } in
-    let long = c.if-number2-size.false ∙ c.body_size-size.ensures in
-    let b = body-whole c.in_ok-kind.kind header long (omega arith) in
+    let long = c.if-number2-size.false ∙ c.body_size-size.ensures ∙ ap (λ (n : ℕ). body_size (kind_row n)) (c.in_ok-kind.ensures ∙ sym told) in
+    let b = body-whole kind header long (omega arith) in
     let is : c.body.result.now ≡ take c.number2-2.result (drop (d.at + 4) d.src.now) = rw c.if-number2-size.false c.body.ensures in
-    record { says = rw is (sym b.stands); fits = record { inside = rw is b.inside; bodied = rw is b.bodied } }
+    record { says = rw is (sym b.stands); fits = record { inside = rw is b.inside; bodied = rw is b.bodied } } in
+    read _ (grind arith)
